@@ -20,7 +20,8 @@ use Rattle.rl_hir.specs.declared.terminal.Case.{Case}
 use Rattle.rl_lowered.proofs.Blocks.{blocks_caught, cases_blocks, expression_blocks, statement_blocks, statements_blocks}
 use Rattle.rl_lowered.proofs.Catches.{declares_caught}
 use Rattle.rl_lowered.specs.Arounds.{around_of, arounds}
-use Rattle.rl_lowered.specs.Lowered.{Lowered, LoweredCases, LoweredStatement, LoweredStatements, catch_begun, catch_bound, promoted}
+use Rattle.rl_lowered.specs.Items.{promoted}
+use Rattle.rl_lowered.specs.Lowered.{Lowered, LoweredCases, LoweredStatement, LoweredStatements, catch_begun, catch_bound}
 use Rattle.rl_lowered.specs.Named.{IsFound}
 use Rattle.rl_model.specs.Actions.{Label}
 use Rattle.rl_names.specs.Names.{Names}

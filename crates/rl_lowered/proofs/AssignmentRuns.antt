@@ -24,8 +24,9 @@ use Rattle.rl_lowered.proofs.Forms.{identifiers_in, key_by, load_acts, store_act
 use Rattle.rl_lowered.proofs.Meant.{member_means}
 use Rattle.rl_lowered.proofs.Refusals.{applied_plain}
 use Rattle.rl_lowered.specs.Forms.{IsMember, MemberKey, Static, applied_by, load_of, store_of}
+use Rattle.rl_lowered.specs.Items.{variable_at}
 use Rattle.rl_lowered.specs.Lowered.{LoweredAll, assigned_to, member_assigned, member_computed, name_computed, name_reloaded}
-use Rattle.rl_lowered.specs.Lowered.{name_stored, variable_at}
+use Rattle.rl_lowered.specs.Lowered.{name_stored}
 use Rattle.rl_lowered.specs.Named.{IsFound, found}
 use Rattle.rl_machine.specs.Traces.{Store, ValueCont, World, set}
 use Rattle.rl_machine.specs.declared.trace.Answer.{Answer}

@@ -18,11 +18,12 @@ use Rattle.rl_hir.specs.declared.instruction.Place.{Place}
 use Rattle.rl_hir.specs.declared.terminal.Case.{Case}
 use Rattle.rl_lowered.proofs.Catches.{declares_caught, length_promoted}
 use Rattle.rl_lowered.proofs.Clean.{moved_never}
-use Rattle.rl_lowered.proofs.HeadRuns.{variable_pattern}
+use Rattle.rl_lowered.proofs.TargetMoves.{variable_pattern}
 use Rattle.rl_lowered.proofs.Plain.{is_operand, lowered_plain}
 use Rattle.rl_lowered.proofs.Runs.{expression_runs}
-use Rattle.rl_lowered.specs.Lowered.{CaseMoved, CaseTested, LoweredCaseTest, NoCaseTest, catch_begun, catch_bound, caught, promoted}
-use Rattle.rl_lowered.specs.Lowered.{promoted_identifier, throwing, throwing_under}
+use Rattle.rl_lowered.specs.Items.{caught, promoted, promoted_identifier}
+use Rattle.rl_lowered.specs.Lowered.{CaseMoved, CaseTested, LoweredCaseTest, NoCaseTest, catch_begun, catch_bound}
+use Rattle.rl_lowered.specs.Lowered.{throwing, throwing_under}
 use Rattle.rl_lowered.specs.Named.{IsFound, found}
 use Rattle.rl_machine.specs.declared.trace.Value.{Value}
 use Rattle.rl_machine.specs.Machine.{Code}

@@ -8,7 +8,8 @@ use Rattle.rl_builder.specs.Temporaries.{with_value}
 use Rattle.rl_hir.specs.declared.instruction.InstructionKind.TheVariants as kinds
 use Rattle.rl_hir.specs.declared.instruction.InstructionValue.{InstructionValue}
 use Rattle.rl_hir.specs.declared.instruction.InstructionValue.TheVariants as values
-use Rattle.rl_lowered.specs.Lowered.{caught, promoted, promoted_identifier, throwing, throwing_under}
+use Rattle.rl_lowered.specs.Items.{caught, promoted, promoted_identifier}
+use Rattle.rl_lowered.specs.Lowered.{throwing, throwing_under}
 use Rattle.rl_promises.specs.Rows.{refusal}
 use Rattle.rl_runs.proofs.BlockIds.{ids_refl}
 use Rattle.rl_runs.proofs.FinalNames.{names_refl, sound_more}

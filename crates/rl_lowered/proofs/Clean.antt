@@ -13,6 +13,7 @@ use Rattle.rl_hir.specs.declared.instruction.InstructionValue.{InstructionValue}
 use Rattle.rl_hir.specs.declared.instruction.NonLocalBinding.{NonLocalBinding}
 use Rattle.rl_hir.specs.declared.instruction.Place.{Place}
 use Rattle.rl_hir.specs.Pieces.{Piece}
+use Rattle.rl_lowered.proofs.Refusals.{assigned_pattern_refuses, assigned_refuses}
 use Rattle.rl_lowered.proofs.Refusals.{assigned_member_refuses, cast_refuses, compound_member_refuses, compound_refuses, computed_refuses}
 use Rattle.rl_lowered.proofs.Refusals.{constant_refuses, form_refuses, fraction_refuses, lost_head_refuses, member_head_refuses}
 use Rattle.rl_lowered.proofs.Refusals.{member_refuses, method_refuses, outer_refuses, private_refuses, property_refuses, refused_refuses}
@@ -24,13 +25,15 @@ use Rattle.rl_names.specs.Names.{Names}
 use Rattle.rl_promises.proofs.Covering.{none_in}
 use Rattle.rl_promises.specs.Moved.{may_move, said_of_moved, type_name}
 use Rattle.rl_promises.specs.Outs.{is_known_key, is_lost_head}
+use Rattle.rl_promises.specs.Patterns.{is_pattern}
+use Rattle.rl_promises.specs.Rows.{refusals_to}
 use Rattle.rl_promises.specs.Rows.{is_eval, label_of, refusal, refusals, refusals_among, refusals_at, refusals_at_head, refusals_below}
 use Rattle.rl_promises.specs.Rows.{refusals_in, refusals_in_cases, said_of_assigned, said_of_finalizer, said_of_init, said_of_local}
 use Rattle.rl_promises.specs.Rows.{said_of_test, said_of_throw, said_of_updated}
 use Rattle.rl_syntax.specs.declared.numbered.At.{At}
 use Rattle.rl_syntax.specs.declared.word.Word.{Word}
 use Rattle.rl_syntax.specs.declared.word.Word.TheVariants as word
-use Rattle.rl_syntax.specs.Syntax.{End, Flag, Listed, Node, Pieces, Said, Syntax, Then}
+use Rattle.rl_syntax.specs.Syntax.{Absent, End, Flag, Listed, Node, Pieces, Said, Syntax, Then}
 use Rattle.rl_text.specs.Numeral.{is_numeral}
 
 -- Two lists without an element together.
@@ -190,13 +193,28 @@ pub member_head_clean : {w : Word} {fields parts : Pieces} {pieces : List Piece}
     → refusals_in names parts ≡ []
 member_head_clean is names at none = sym (member_head_refuses names at is) ∙ none
 
+-- A pattern that a head declares.
+pub declared_pattern_clean : (names : Names) (at there : At) (kind : List ℕ) (pattern : Syntax)
+    → refusals_at_head names
+    (Node at word.Var (Then (Said kind) (Then (Listed (Then (Node there word.Declarator (Then pattern (Then Absent End))) End)) End))) ≡ []
+    → refusals names pattern ≡ []
+declared_pattern_clean names at there kind pattern none =
+    first_none (refusals names pattern) [] (first_none (refusals names pattern ++ []) [] none)
+
 -- Assignments.
 
-pub assigned_clean : (names : Names) (at : At) (target right : Syntax)
+pub assigned_clean : (names : Names) (at : At) (target right : Syntax) → is_pattern target ≡ false
     → refusals names (Node at word.Assign (Then (Said (codes "=")) (Then target (Then right End)))) ≡ []
     → (refusals names right ≡ []) × (said_of_assigned names at.span target (refusals_below names target) ≡ [])
-assigned_clean names at target right none =
-    none_in (refusals names right) (said_of_assigned names at.span target (refusals_below names target)) none
+assigned_clean names at target right whole none =
+    none_in (refusals names right) (said_of_assigned names at.span target (refusals_below names target))
+    (sym (assigned_refuses names at target right whole) ∙ none)
+
+pub assigned_pattern_clean : (names : Names) (at : At) (target right : Syntax) → is_pattern target ≡ true
+    → refusals names (Node at word.Assign (Then (Said (codes "=")) (Then target (Then right End)))) ≡ []
+    → (refusals names right ≡ []) × (refusals_to names target ≡ [])
+assigned_pattern_clean names at target right taken none =
+    none_in (refusals names right) (refusals_to names target) (sym (assigned_pattern_refuses names at target right taken) ∙ none)
 
 pub assigned_member_clean : {w : Word} {fields parts : Pieces} {pieces : List Piece} {object : Place} {key : MemberKey}
     → IsMember w fields parts pieces object key → (names : Names) (at there : At) (right : Syntax)
@@ -211,7 +229,7 @@ pub constant_assigned_never : (names : Names) (at there : At) (name : List ℕ) 
     (Node at word.Assign (Then (Said (codes "=")) (Then (Node there word.Id (Then (Said name) End)) (Then right End)))) ≡ [] → ⊥
 constant_assigned_never names at there name right symbol is constant none =
     constant_head_never names there name symbol is constant
-    (assigned_clean names at (Node there word.Id (Then (Said name) End)) right none).1
+    (assigned_clean names at (Node there word.Id (Then (Said name) End)) right refl none).1
 
 pub private_assigned_never : (names : Names) (at there : At) (object : Syntax) (name : List ℕ) (right : Syntax)
     → refusals names
@@ -222,15 +240,15 @@ pub private_assigned_never : (names : Names) (at there : At) (object : Syntax) (
 private_assigned_never names at there object name right none =
     let fields : Pieces = Then (Flag false) (Then object (Then (Said name) End)) in
     behind_none (refusals_in names fields) (refusal row.F5 at.span)
-    (assigned_clean names at (Node there word.Privatemember fields) right none).1
+    (assigned_clean names at (Node there word.Privatemember fields) right refl none).1
 
 pub compound_clean : (names : Names) (at : At) (target right : Syntax) (operator : AssignmentOperator) (applied : BinaryOperator)
-    → applied_by operator ≡ Some applied
+    → applied_by operator ≡ Some applied → is_pattern target ≡ false
     → refusals names (Node at word.Assign (Then (Said (assignment_text operator)) (Then target (Then right End)))) ≡ []
     → (refusals names target ≡ []) × (refusals names right ≡ []) × (said_of_updated names target ≡ [])
-compound_clean names at target right operator applied applies none =
+compound_clean names at target right operator applied applies whole none =
     let whole = none_in (refusals names target ++ refusals names right) (said_of_updated names target)
-    (sym (compound_refuses names at target right operator applied applies) ∙ none) in
+    (sym (compound_refuses names at target right operator applied applies whole) ∙ none) in
     let front = none_in (refusals names target) (refusals names right) whole.0 in
     (front.0, front.1, whole.1)
 
@@ -251,7 +269,7 @@ pub constant_compound_never : (names : Names) (at there : At) (name : List ℕ) 
     → ⊥
 constant_compound_never names at there name right operator applied applies symbol is constant none =
     constant_head_never names there name symbol is constant
-    (compound_clean names at (Node there word.Id (Then (Said name) End)) right operator applied applies none).2
+    (compound_clean names at (Node there word.Id (Then (Said name) End)) right operator applied applies refl none).2
 
 -- Kinds that are refused.
 
@@ -369,3 +387,15 @@ constant_update_never names at there operator prefix name symbol is constant non
     behind_none (said_of_local (names.name symbol.0) (label_of names symbol there.span))
     (diagnostic_at row.F6 (names.name symbol.0) there.span)
     (sym (constant_refuses names at there operator prefix name symbol is constant) ∙ none)
+
+-- A parameter has none, and neither have those behind it and the rest.
+pub record IsCleanParam (names : Names) (param : Syntax) (more : Pieces) (rest : Syntax) : Type 0 where
+  pub own : refusals names param ≡ []
+  pub others : refusals_in names more ++ refusals names rest ≡ []
+
+pub param_clean : (names : Names) (param : Syntax) (more : Pieces) (rest : Syntax)
+    → refusals_in names (Then param more) ++ refusals names rest ≡ [] → IsCleanParam names param more rest
+param_clean names param more rest none =
+    let both = none_in (refusals_in names (Then param more)) (refusals names rest) none in
+    let rows = row_clean names param more both.0 in
+    record { own = rows.0; others = ap (λ (l : List Diagnostic). l ++ refusals names rest) rows.1 ∙ both.1 }

@@ -16,7 +16,7 @@ use Rattle.rl_syntax.specs.declared.word.Word.{Word}
 use Rattle.rl_syntax.specs.declared.word.Word.TheVariants as word
 use Rattle.rl_syntax.specs.Syntax.{End, Flag, Listed, Node, Pieces, Said, Syntax, Then}
 
--- Where the outermost link of a chain stands: below a link of another chain, or at the top.
+-- The position of the outermost link of a chain: below a link of another chain, or at the top.
 abbrev pub spine_place : (below : Bool) → Spine
 spine_place true = Below
 spine_place false = Top
@@ -55,6 +55,11 @@ below_off names (Node at word.Cond (Then condition (Then consequent (Then altern
 below_off names (Node at word.Logical (Then operator (Then left (Then right End)))) none = none
 below_off names (Node at word.Var (Then (Said kind) (Then declarators End))) none = none
 below_off names (Node at word.Declarator (Then pattern (Then init End))) none = none
+below_off names (Node at word.Param (Then pattern (Then default End))) none = none
+below_off names (Node at word.Defaultpat (Then pattern (Then default End))) none = none
+below_off names (Node at word.Keyedpat (Then computed (Then key (Then pattern End)))) none = none
+below_off names (Node at word.Arraypat (Then (Listed items) (Then rest End))) none = none
+below_off names (Node at word.Objectpat (Then (Listed properties) (Then rest End))) none = none
 below_off names (Node at word.Instantiate (Then expression types)) none = none
 below_off names (Node at word.Chain (Then expression rest)) none = none
 below_off names (Node at word.Unary (Then (Said operator) (Then argument End))) none = none

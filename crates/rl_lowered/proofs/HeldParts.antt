@@ -29,7 +29,7 @@ use Rattle.rl_promises.proofs.Unheld.{names_unheld, type_unheld}
 use Rattle.rl_promises.specs.Held.{is_of}
 use Rattle.rl_promises.specs.Live.{Held, held_among, held_as, held_in}
 use Rattle.rl_promises.specs.Tallies.{Awaits, Calls, Constructions, IsHeldKind, Stores, call_word, held_span, held_word, is_among}
-use Rattle.rl_promises.specs.Tallies.{store_word}
+use Rattle.rl_promises.specs.Tallies.{store_word, stores_at}
 use Rattle.rl_syntax.specs.declared.numbered.At.{At}
 use Rattle.rl_syntax.specs.declared.word.Word.{Word}
 use Rattle.rl_syntax.specs.declared.word.Word.TheVariants as word
@@ -86,38 +86,39 @@ counted_among {kinds} held v = and_true (list_any (bytes_eq (value_word v)) kind
 
 -- Literals, texts of templates, and wrappers.
 
-pub literal_held : {w : Word} {fields : Pieces} {p : PrimitiveValue} → IsLiteral w fields p → (at : At) → held_in (Node at w fields) ≡ []
-literal_held forms.Null at = refl
-literal_held _ at = refl
+pub literal_held : (names : Names) {w : Word} {fields : Pieces} {p : PrimitiveValue} → IsLiteral w fields p → (at : At)
+    → held_in names (Node at w fields) ≡ []
+literal_held names forms.Null at = refl
+literal_held names _ at = refl
 
-quasis_held : {texts : Pieces} {quasis : List TemplateQuasi} → AreQuasis texts quasis → held_among texts ≡ []
-quasis_held forms.NoQuasi = refl
-quasis_held (forms.NextQuasi more) = quasis_held more
-quasis_held (forms.NextUncooked more) = quasis_held more
+quasis_held : (names : Names) {texts : Pieces} {quasis : List TemplateQuasi} → AreQuasis texts quasis → held_among names texts ≡ []
+quasis_held names forms.NoQuasi = refl
+quasis_held names (forms.NextQuasi more) = quasis_held names more
+quasis_held names (forms.NextUncooked more) = quasis_held names more
 
-pub wrapper_held : {w : Word} {fields : Pieces} {e : Syntax} → IsWrapper w fields e → (at : At)
-    → held_in (Node at w fields) ≡ held_in e
-wrapper_held (forms.Parenthesized {e}) at = append-nil (held_in e)
-wrapper_held (forms.NonNull {e}) at = append-nil (held_in e)
-wrapper_held (forms.Instantiated {e} {types} fit) at =
-    ap (λ (l : List Held). held_in e ++ (l ++ [])) (names_unheld types fit) ∙ append-nil (held_in e)
+pub wrapper_held : (names : Names) {w : Word} {fields : Pieces} {e : Syntax} → IsWrapper w fields e → (at : At)
+    → held_in names (Node at w fields) ≡ held_in names e
+wrapper_held names (forms.Parenthesized {e}) at = append-nil (held_in names e)
+wrapper_held names (forms.NonNull {e}) at = append-nil (held_in names e)
+wrapper_held names (forms.Instantiated {e} {types} fit) at =
+    ap (λ (l : List Held). held_in names e ++ (l ++ [])) (names_unheld names types fit) ∙ append-nil (held_in names e)
 
-pub cast_held : {w : Word} {fields : Pieces} {e type : Syntax} → IsCast w fields e type → IsAnnotation type → (at : At)
-    → held_in (Node at w fields) ≡ held_in e
-cast_held (forms.As {e} {type}) fit at =
-    ap (λ (l : List Held). held_in e ++ (l ++ [])) (type_unheld type fit) ∙ append-nil (held_in e)
-cast_held (forms.Satisfies {e} {type}) fit at =
-    ap (λ (l : List Held). held_in e ++ (l ++ [])) (type_unheld type fit) ∙ append-nil (held_in e)
-cast_held (forms.Assert {e} {type}) fit at =
-    ap (λ (l : List Held). l ++ (held_in e ++ [])) (type_unheld type fit) ∙ append-nil (held_in e)
+pub cast_held : (names : Names) {w : Word} {fields : Pieces} {e type : Syntax} → IsCast w fields e type → IsAnnotation type → (at : At)
+    → held_in names (Node at w fields) ≡ held_in names e
+cast_held names (forms.As {e} {type}) fit at =
+    ap (λ (l : List Held). held_in names e ++ (l ++ [])) (type_unheld names type fit) ∙ append-nil (held_in names e)
+cast_held names (forms.Satisfies {e} {type}) fit at =
+    ap (λ (l : List Held). held_in names e ++ (l ++ [])) (type_unheld names type fit) ∙ append-nil (held_in names e)
+cast_held names (forms.Assert {e} {type}) fit at =
+    ap (λ (l : List Held). l ++ (held_in names e ++ [])) (type_unheld names type fit) ∙ append-nil (held_in names e)
 
 -- Properties.
 
-pub member_held : {w : Word} {fields parts : Pieces} {pieces : List Piece} {object : Place} {key : MemberKey}
-    → IsMember w fields parts pieces object key → (at : At) → held_in (Node at w fields) ≡ held_among parts
-member_held forms.Static at = refl
-member_held (forms.Indexed other) at = refl
-member_held (forms.Numbered is) at = refl
+pub member_held : (names : Names) {w : Word} {fields parts : Pieces} {pieces : List Piece} {object : Place} {key : MemberKey}
+    → IsMember w fields parts pieces object key → (at : At) → held_in names (Node at w fields) ≡ held_among names parts
+member_held names forms.Static at = refl
+member_held names (forms.Indexed other) at = refl
+member_held names (forms.Numbered is) at = refl
 
 member_word : {w : Word} {fields parts : Pieces} {pieces : List Piece} {object : Place} {key : MemberKey}
     → IsMember w fields parts pieces object key → held_word w fields ≡ None
@@ -128,6 +129,11 @@ member_span : {w : Word} {fields parts : Pieces} {pieces : List Piece} {object :
     → IsMember w fields parts pieces object key → (at : Span) → held_span w fields at ≡ at
 member_span forms.Static at = refl
 member_span _ at = refl
+
+member_unkept : (names : Names) {w : Word} {fields parts : Pieces} {pieces : List Piece} {object : Place} {key : MemberKey}
+    → IsMember w fields parts pieces object key → stores_at names w fields ≡ []
+member_unkept names forms.Static = refl
+member_unkept names _ = refl
 
 -- A store to a property is not counted.
 pub member_unstored : {w : Word} {fields parts : Pieces} {pieces : List Piece} {object : Place} {key : MemberKey}
@@ -142,48 +148,52 @@ member_unheld forms.Static = (refl, refl)
 member_unheld _ = (refl, refl)
 
 -- The fields of a property hold what its parts do.
-member_fields : {w : Word} {fields parts : Pieces} {pieces : List Piece} {object : Place} {key : MemberKey}
-    → IsMember w fields parts pieces object key → held_among fields ≡ held_among parts
-member_fields forms.Static = refl
-member_fields _ = refl
+member_fields : (names : Names) {w : Word} {fields parts : Pieces} {pieces : List Piece} {object : Place} {key : MemberKey}
+    → IsMember w fields parts pieces object key → held_among names fields ≡ held_among names parts
+member_fields names forms.Static = refl
+member_fields names _ = refl
 
-inside_held : {e inner : Syntax} → IsInside e inner → held_in e ≡ held_in inner
-inside_held forms.Bare = refl
-inside_held (forms.Around {at} {e} more) = append-nil (held_in e) ∙ inside_held more
+inside_held : (names : Names) {e inner : Syntax} → IsInside e inner → held_in names e ≡ held_in names inner
+inside_held names forms.Bare = refl
+inside_held names (forms.Around {at} {e} more) = append-nil (held_in names e) ∙ inside_held names more
 
-pub updated_held : {w : Word} {fields parts : Pieces} {pieces : List Piece} {object : Place} {key : MemberKey}
+pub updated_held : (names : Names) {w : Word} {fields parts : Pieces} {pieces : List Piece} {object : Place} {key : MemberKey}
     → IsMember w fields parts pieces object key → (at there : At) (operator : List ℕ) (prefix : Bool)
-    → held_in (Node at word.Update (Then (Said operator) (Then (Flag prefix) (Then (Node there w fields) End)))) ≡ held_among parts
-updated_held is at there operator prefix = append-nil _ ∙ member_held is there
+    → held_in names (Node at word.Update (Then (Said operator) (Then (Flag prefix) (Then (Node there w fields) End))))
+    ≡ held_among names parts
+updated_held names is at there operator prefix = append-nil _ ∙ member_held names is there
 
 -- The call of a method, and then what its parts hold.
-pub method_held : {w : Word} {fields parts : Pieces} {pieces : List Piece} {object : Place} {key : MemberKey}
+pub method_held : (names : Names) {w : Word} {fields parts : Pieces} {pieces : List Piece} {object : Place} {key : MemberKey}
     → IsMember w fields parts pieces object key → (at there : At) (es : Pieces)
-    → held_in (Node at word.Call (Then (Flag false) (Then (Node there w fields) (Then (Listed es) End))))
-    ≡ record { word = codes "methodcall"; span = at.span } ∷ (held_among parts ++ held_among es)
-method_held (forms.Static {object}) at there es =
-    ap (λ (l : List Held). record { word = codes "methodcall"; span = at.span } ∷ ((held_in object ++ []) ++ l))
-    (append-nil (held_among es))
-method_held (forms.Indexed {object} {property} other) at there es =
-    ap (λ (l : List Held). record { word = codes "methodcall"; span = at.span } ∷ ((held_in object ++ (held_in property ++ [])) ++ l))
-    (append-nil (held_among es))
-method_held (forms.Numbered {object} is) at there es =
-    ap (λ (l : List Held). record { word = codes "methodcall"; span = at.span } ∷ ((held_in object ++ []) ++ l))
-    (append-nil (held_among es))
+    → held_in names (Node at word.Call (Then (Flag false) (Then (Node there w fields) (Then (Listed es) End))))
+    ≡ record { word = codes "methodcall"; span = at.span } ∷ (held_among names parts ++ held_among names es)
+method_held names (forms.Static {object}) at there es =
+    ap (λ (l : List Held). record { word = codes "methodcall"; span = at.span } ∷ ((held_in names object ++ []) ++ l))
+    (append-nil (held_among names es))
+method_held names (forms.Indexed {object} {property} other) at there es =
+    ap (λ (l : List Held). record { word = codes "methodcall"; span = at.span } ∷ ((held_in names object ++ (held_in names property ++ []))
+    ++ l))
+    (append-nil (held_among names es))
+method_held names (forms.Numbered {object} is) at there es =
+    ap (λ (l : List Held). record { word = codes "methodcall"; span = at.span } ∷ ((held_in names object ++ []) ++ l))
+    (append-nil (held_among names es))
 
 -- Links of chains: a call is counted before what its callee and its arguments hold, and no property is.
 
-pub link_held : {w : Word} {rest parts : Pieces} {pieces : List Piece} {key : MemberKey} → IsLinkKey w rest parts pieces key → (at : At)
+pub link_held : (names : Names) {w : Word} {rest parts : Pieces} {pieces : List Piece} {key : MemberKey} → IsLinkKey w rest parts pieces key
+    → (at : At)
     (optional : Bool) (object : Syntax)
-    → held_in (Node at w (Then (Flag optional) (Then object rest))) ≡ held_in object ++ held_among parts
-link_held forms.LinkStatic at optional object = refl
-link_held _ at optional object = refl
+    → held_in names (Node at w (Then (Flag optional) (Then object rest))) ≡ held_in names object ++ held_among names parts
+link_held names forms.LinkStatic at optional object = refl
+link_held names _ at optional object = refl
 
-pub call_link_held : (at : At) (optional : Bool) (callee : Syntax) (es : Pieces)
-    → held_in (Node at word.Call (Then (Flag optional) (Then callee (Then (Listed es) End))))
-    ≡ record { word = call_word callee; span = at.span } ∷ (held_in callee ++ held_among es)
-call_link_held at optional callee es =
-    ap (λ (l : List Held). record { word = call_word callee; span = at.span } ∷ (held_in callee ++ l)) (append-nil (held_among es))
+pub call_link_held : (names : Names) (at : At) (optional : Bool) (callee : Syntax) (es : Pieces)
+    → held_in names (Node at word.Call (Then (Flag optional) (Then callee (Then (Listed es) End))))
+    ≡ record { word = call_word callee; span = at.span } ∷ (held_in names callee ++ held_among names es)
+call_link_held names at optional callee es =
+    ap (λ (l : List Held). record { word = call_word callee; span = at.span } ∷ (held_in names callee ++ l))
+    (append-nil (held_among names es))
 
 -- The instruction of a call has the word of its callee: a property lends its object.
 
@@ -221,43 +231,47 @@ link_word {callee} d given = HeldBy (call_word callee) refl (front_word d refl g
 
 -- Assignments: that to a name is counted by its store, and one to a property is not.
 
-pub assigned_held : (at there : At) (name : List ℕ) (right : Syntax)
-    → held_in (Node at word.Assign (Then (Said (codes "=")) (Then (Node there word.Id (Then (Said name) End)) (Then right End))))
-    ≡ record { word = codes "storelocal"; span = there.span } ∷ held_in right
-assigned_held at there name right =
-    ap (λ (l : List Held). record { word = codes "storelocal"; span = there.span } ∷ l) (append-nil (held_in right))
+pub assigned_held : (names : Names) (at there : At) (name : List ℕ) (right : Syntax)
+    → held_in names (Node at word.Assign (Then (Said (codes "=")) (Then (Node there word.Id (Then (Said name) End)) (Then right End))))
+    ≡ record { word = codes "storelocal"; span = there.span } ∷ held_in names right
+assigned_held names at there name right =
+    ap (λ (l : List Held). record { word = codes "storelocal"; span = there.span } ∷ l) (append-nil (held_in names right))
 
-pub compound_held : (at there : At) (name operator : List ℕ) (right : Syntax) → bytes_eq operator (codes "=") ≡ false
-    → held_in (Node at word.Assign (Then (Said operator) (Then (Node there word.Id (Then (Said name) End)) (Then right End))))
-    ≡ record { word = codes "storelocal"; span = at.span } ∷ held_in right
-compound_held at there name operator right other =
-    ap (λ (b : Bool). record { word = codes "storelocal"; span = if b then there.span else at.span } ∷ (held_in right ++ [])) other
-    ∙ ap (λ (l : List Held). record { word = codes "storelocal"; span = at.span } ∷ l) (append-nil (held_in right))
+pub compound_held : (names : Names) (at there : At) (name operator : List ℕ) (right : Syntax) → bytes_eq operator (codes "=") ≡ false
+    → held_in names (Node at word.Assign (Then (Said operator) (Then (Node there word.Id (Then (Said name) End)) (Then right End))))
+    ≡ record { word = codes "storelocal"; span = at.span } ∷ held_in names right
+compound_held names at there name operator right other =
+    ap (λ (b : Bool). record { word = codes "storelocal"; span = if b then there.span else at.span } ∷ (held_in names right ++ [])) other
+    ∙ ap (λ (l : List Held). record { word = codes "storelocal"; span = at.span } ∷ l) (append-nil (held_in names right))
 
-pub assigned_member_held : {w : Word} {fields parts : Pieces} {pieces : List Piece} {object : Place} {key : MemberKey}
+pub assigned_member_held : (names : Names) {w : Word} {fields parts : Pieces} {pieces : List Piece} {object : Place} {key : MemberKey}
     → IsMember w fields parts pieces object key → (at there : At) (operator : List ℕ) (right : Syntax)
-    → held_in (Node at word.Assign (Then (Said operator) (Then (Node there w fields) (Then right End)))) ≡ held_among parts ++ held_in right
-assigned_member_held {w} {fields} {parts} is at there operator right =
+    → held_in names (Node at word.Assign (Then (Said operator) (Then (Node there w fields) (Then right End))))
+    ≡ held_among names parts ++ held_in names right
+assigned_member_held names {w} {fields} {parts} is at there operator right =
     let span : Span = held_span word.Assign (Then (Said operator) (Then (Node there w fields) (Then right End))) at.span in
-    ap (λ (o : Option (List ℕ)). held_as o span ++ (held_in (Node there w fields) ++ (held_in right ++ []))) (member_unstored is there)
-    ∙ ap (λ (l : List Held). l ++ (held_in right ++ [])) (member_held is there)
-    ∙ ap (λ (l : List Held). held_among parts ++ l) (append-nil (held_in right))
+    ap (λ (o : Option (List ℕ)). (held_as o span ++ []) ++ (held_in names (Node there w fields) ++ (held_in names right ++ [])))
+    (member_unstored is there)
+    ∙ ap (λ (l : List Held). l ++ (held_in names right ++ [])) (member_held names is there)
+    ∙ ap (λ (l : List Held). held_among names parts ++ l) (append-nil (held_in names right))
 
 -- A kind of the table: the parts that are lowered hold what the fields do.
-pub form_held : {w : Word} {fields parts : Pieces} {pieces : List Piece} {v : InstructionValue} → IsForm w fields parts pieces v
-    → held_among fields ≡ held_among parts
-form_held (forms.Call {callee} {es} plain given) = ap (λ (l : List Held). held_in callee ++ l) (append-nil (held_among es))
-form_held (forms.New {callee} {es} given) = ap (λ (l : List Held). held_in callee ++ l) (append-nil (held_among es))
-form_held (forms.Array {es} given) = append-nil (held_among es)
-form_held (forms.Template {texts} {es} quasis given) =
-    ap (λ (l : List Held). l ++ (held_among es ++ [])) (quasis_held quasis) ∙ append-nil (held_among es)
-form_held (forms.Tagged {tag} {texts} {es} raw quasis given) =
-    ap (λ (l : List Held). held_in tag ++ ((l ++ (held_among es ++ [])) ++ [])) (quasis_held quasis)
-    ∙ ap (λ (l : List Held). held_in tag ++ l) (append-nil (held_among es ++ []) ∙ append-nil (held_among es))
-form_held (forms.Load is) = member_fields is
-form_held (forms.Delete operator {e} {there} deletes inside is) =
-    append-nil (held_in e) ∙ inside_held inside ∙ member_held is there
-form_held _ = refl
+pub form_held : (names : Names) {w : Word} {fields parts : Pieces} {pieces : List Piece} {v : InstructionValue}
+    → IsForm w fields parts pieces v
+    → held_among names fields ≡ held_among names parts
+form_held names (forms.Call {callee} {es} plain given) =
+    ap (λ (l : List Held). held_in names callee ++ l) (append-nil (held_among names es))
+form_held names (forms.New {callee} {es} given) = ap (λ (l : List Held). held_in names callee ++ l) (append-nil (held_among names es))
+form_held names (forms.Array {es} given) = append-nil (held_among names es)
+form_held names (forms.Template {texts} {es} quasis given) =
+    ap (λ (l : List Held). l ++ (held_among names es ++ [])) (quasis_held names quasis) ∙ append-nil (held_among names es)
+form_held names (forms.Tagged {tag} {texts} {es} raw quasis given) =
+    ap (λ (l : List Held). held_in names tag ++ ((l ++ (held_among names es ++ [])) ++ [])) (quasis_held names quasis)
+    ∙ ap (λ (l : List Held). held_in names tag ++ l) (append-nil (held_among names es ++ []) ∙ append-nil (held_among names es))
+form_held names (forms.Load is) = member_fields names is
+form_held names (forms.Delete operator {e} {there} deletes inside is) =
+    append-nil (held_in names e) ∙ inside_held names inside ∙ member_held names is there
+form_held names _ = refl
 
 pub form_word : {w : Word} {fields parts : Pieces} {pieces : List Piece} {v : InstructionValue} → IsForm w fields parts pieces v
     → IsHeldAs (held_word w fields) v
@@ -268,6 +282,12 @@ form_word (forms.Load is) = Unheld (member_word is) (member_unheld is).0
 form_word (forms.Delete operator deletes inside is) = Unheld refl (member_unheld is).1
 form_word _ = Unheld refl refl
 
+-- It has no stores besides.
+pub form_stores : (names : Names) {w : Word} {fields parts : Pieces} {pieces : List Piece} {v : InstructionValue}
+    → IsForm w fields parts pieces v → stores_at names w fields ≡ []
+form_stores names (forms.Load is) = member_unkept names is
+form_stores names _ = refl
+
 -- The instruction has the span of the node.
 pub form_span : {w : Word} {fields parts : Pieces} {pieces : List Piece} {v : InstructionValue} → IsForm w fields parts pieces v
     → (at : Span) → held_span w fields at ≡ at
@@ -276,38 +296,39 @@ form_span _ at = refl
 
 -- Properties of object literals.
 
-key_held : {computed : Bool} {key : Syntax} {text : List ℕ} → HasText computed key text → held_in key ≡ []
-key_held (Name at said) = refl
-key_held _ = refl
+key_held : (names : Names) {computed : Bool} {key : Syntax} {text : List ℕ} → HasText computed key text → held_in names key ≡ []
+key_held names (Name at said) = refl
+key_held names _ = refl
 
-pub property_held : (at : At) (computed : Bool) (key e : Syntax) (text : List ℕ) → key_text computed key ≡ Some text
-    → held_in (Node at word.Prop (Then (Flag computed) (Then key (Then e End)))) ≡ held_in e
-property_held at computed key e text is =
-    ap (λ (l : List Held). l ++ (held_in e ++ [])) (key_held (has_text computed key text is)) ∙ append-nil (held_in e)
+pub property_held : (names : Names) (at : At) (computed : Bool) (key e : Syntax) (text : List ℕ) → key_text computed key ≡ Some text
+    → held_in names (Node at word.Prop (Then (Flag computed) (Then key (Then e End)))) ≡ held_in names e
+property_held names at computed key e text is =
+    ap (λ (l : List Held). l ++ (held_in names e ++ [])) (key_held names (has_text computed key text is)) ∙ append-nil (held_in names e)
 
-pub computed_held : (at : At) (key e : Syntax)
-    → held_in (Node at word.Prop (Then (Flag true) (Then key (Then e End)))) ≡ held_in key ++ held_in e
-computed_held at key e = ap (λ (l : List Held). held_in key ++ l) (append-nil (held_in e))
+pub computed_held : (names : Names) (at : At) (key e : Syntax)
+    → held_in names (Node at word.Prop (Then (Flag true) (Then key (Then e End)))) ≡ held_in names key ++ held_in names e
+computed_held names at key e = ap (λ (l : List Held). held_in names key ++ l) (append-nil (held_in names e))
 
 -- Declarators.
 
-pub declarator_held : (there bind : At) (name : List ℕ) (type init : Syntax) → IsAnnotation type
-    → held_in (Node there word.Declarator (Then (Node bind word.Bind (Then (Said name) (Then type End))) (Then init End))) ≡ held_in init
-declarator_held there bind name type init fit =
-    ap (λ (l : List Held). (l ++ []) ++ (held_in init ++ [])) (type_unheld type fit) ∙ append-nil (held_in init)
+pub declarator_held : (names : Names) (there bind : At) (name : List ℕ) (type init : Syntax) → IsAnnotation type
+    → held_in names (Node there word.Declarator (Then (Node bind word.Bind (Then (Said name) (Then type End))) (Then init End)))
+    ≡ held_in names init
+declarator_held names there bind name type init fit =
+    ap (λ (l : List Held). (l ++ []) ++ (held_in names init ++ [])) (type_unheld names type fit) ∙ append-nil (held_in names init)
 
 -- The head of a loop that declares a variable.
-pub declared_head_held : (at there bind : At) (kind name : List ℕ) (type : Syntax) → IsAnnotation type
-    → held_in
+pub declared_head_held : (names : Names) (at there bind : At) (kind name : List ℕ) (type : Syntax) → IsAnnotation type
+    → held_in names
     (Node at word.Var
     (Then (Said kind)
     (Then (Listed (Then (Node there word.Declarator (Then (Node bind word.Bind (Then (Said name) (Then type End))) (Then Absent End))) End))
     End)))
     ≡ []
-declared_head_held at there bind kind name type fit =
-    ap (λ (l : List Held). (l ++ []) ++ []) (declarator_held there bind name type Absent fit)
+declared_head_held names at there bind kind name type fit =
+    ap (λ (l : List Held). (l ++ []) ++ []) (declarator_held names there bind name type Absent fit)
 
--- The parameter of a `catch` that is a variable.
-pub param_held : (bind : At) (name : List ℕ) (type : Syntax) → IsAnnotation type
-    → held_in (Node bind word.Bind (Then (Said name) (Then type End))) ≡ []
-param_held bind name type fit = ap (λ (l : List Held). l ++ []) (type_unheld type fit)
+-- A name that is bound.
+pub bind_held : (names : Names) (bind : At) (name : List ℕ) (type : Syntax) → IsAnnotation type
+    → held_in names (Node bind word.Bind (Then (Said name) (Then type End))) ≡ []
+bind_held names bind name type fit = ap (λ (l : List Held). l ++ []) (type_unheld names type fit)

@@ -13,7 +13,8 @@ use Rattle.rl_base.specs.declared.type_kind.TypeKind.TheVariants as types
 use Rattle.rl_base.specs.declared.variable_kind.VariableKind.{VariableKind}
 use Rattle.rl_base.specs.declared.variable_kind.VariableKind.TheVariants as declared
 use Rattle.rl_base.specs.Diagnostics.{diagnostic_at}
-use Rattle.rl_builder.specs.Builder.{State, completed_by, innermost, new_block, recorded, reserved, with_type}
+use Rattle.rl_builder.specs.Builder.{State, completed_by, innermost, new_block, recorded, reserved, with_temporary}
+use Rattle.rl_builder.specs.Builder.{with_type}
 use Rattle.rl_builder.specs.Dropped.{is_function_expression}
 use Rattle.rl_builder.specs.Temporaries.{temporary, with_value}
 use Rattle.rl_frames.specs.Frames.{ForParts, IfParts, LabelParts, LogicalParts, TernaryParts, WhileParts, do_while_bodied, for_after_init}
@@ -27,7 +28,9 @@ use Rattle.rl_frames.specs.Rounds.{ForOfParts, RoundsParts, forin_at, forin_head
 use Rattle.rl_frames.specs.Rounds.{forof_iterator, forof_righted, forof_shut, forof_tested, rounds_bodied, rounds_shut}
 use Rattle.rl_frames.specs.SwitchParts.{case_begun, case_ended, fall_of, switch_begun, switch_end}
 use Rattle.rl_hir.specs.declared.function.BlockKind.TheVariants as blocks
+use Rattle.rl_hir.specs.declared.function.Param.{Param}
 use Rattle.rl_hir.specs.declared.instruction.InstructionKind.{InstructionKind}
+use Rattle.rl_hir.specs.declared.instruction.InstructionKind.TheVariants as variables
 use Rattle.rl_hir.specs.declared.instruction.InstructionValue.{InstructionValue}
 use Rattle.rl_hir.specs.declared.instruction.InstructionValue.TheVariants as values
 use Rattle.rl_hir.specs.declared.instruction.Place.{Place}
@@ -41,24 +44,27 @@ use Rattle.rl_hir.specs.declared.terminal.TerminalKind.TheVariants as kinds
 use Rattle.rl_hir.specs.Pieces.{Piece}
 use Rattle.rl_lowered.proofs.Catches.{catch_declared, declares_caught, stores_caught}
 use Rattle.rl_lowered.proofs.ListingMoves.{beside, lists_beside, lists_completed, lists_entered, lists_for_opened, lists_if_ended}
-use Rattle.rl_lowered.proofs.ListingMoves.{lists_link}
+use Rattle.rl_lowered.proofs.ItemBlocks.{ahead_stays, bound_stays, stays_met, taken_stays}
+use Rattle.rl_lowered.proofs.ListingMoves.{lists_default, lists_link, lists_stays}
 use Rattle.rl_lowered.proofs.ListingMoves.{lists_last, lists_logical_begun, lists_logical_ended, lists_logical_righted, lists_next}
 use Rattle.rl_lowered.proofs.ListingMoves.{lists_refl, lists_same, lists_scope_ended, lists_scope_left, lists_sequence_ended}
 use Rattle.rl_lowered.proofs.ListingMoves.{lists_ternary_alternated, lists_ternary_consequent, lists_then, lists_value}
 use Rattle.rl_lowered.specs.Forms.{Front, IsForm, MemberKey, call_of, delete_of, load_of, store_of, tested_front, typed}
 use Rattle.rl_lowered.specs.Forms as forms
 use Rattle.rl_lowered.specs.Listing.{ListsSince}
+use Rattle.rl_lowered.specs.Items.{Later, caught, destructured, found_again, met, promoted, variable_at}
 use Rattle.rl_lowered.specs.Lowered.{Lowered, LoweredBody, LoweredCaseTest, LoweredCases, LoweredDeclarators, LoweredHead, LoweredInit}
 use Rattle.rl_lowered.specs.Lowered.{LoweredFront, LoweredLast, LoweredLink, LoweredLoop, LoweredParts, LoweredSpine, LoweredStatement}
 use Rattle.rl_lowered.specs.Lowered.{LoweredStatements, LoweredTest, assigned_to, private_met}
-use Rattle.rl_lowered.specs.Lowered.{catch_begun, catch_bound, caught, declaring, found_again, member_assigned, member_computed}
+use Rattle.rl_lowered.specs.Lowered.{catch_begun, catch_bound, declaring, member_assigned, member_computed}
 use Rattle.rl_lowered.specs.Lowered.{member_loaded, member_one, member_stored, member_updated, name_computed, name_reloaded, name_stored}
-use Rattle.rl_lowered.specs.Lowered.{part_span, promoted, throwing, throwing_under, update_of, value_span, variable_at}
+use Rattle.rl_lowered.specs.Lowered.{part_span, throwing, throwing_under, update_of, value_span}
+use Rattle.rl_lowered.specs.Lowered.{LoweredBound, LoweredLater, LoweredMoved, LoweredParams, LoweredPattern, LoweredTarget}
 use Rattle.rl_lowered.specs.Lowered as lowered
 use Rattle.rl_lowered.specs.Named.{found}
 use Rattle.rl_model.specs.Actions.{Label}
 use Rattle.rl_names.specs.Names.{Names}
-use Rattle.rl_optional_frames.specs.Frames.{link_at, link_objected}
+use Rattle.rl_optional_frames.specs.Frames.{default_at, default_ended, link_at, link_objected}
 use Rattle.rl_promises.specs.Moved.{type_name}
 use Rattle.rl_promises.specs.Rows.{refusal, row_of_head}
 use Rattle.rl_runs.specs.Moves.{branch, ends_by, goto, last_hole, next_hole, return_of, returned_from, threw_from, without_handler}
@@ -201,6 +207,8 @@ mutual
   expression_lists (lowered.AssignedPrivate at there object name right s t u p q l m) =
       lists_then s t _ (expression_lists l)
       (lists_then t u _ (expression_lists m) (lists_undefined u (refusal row.F5 at.span) at.span))
+  expression_lists (lowered.AssignedPattern at there w fields right s t u p q is l d) =
+      lists_then s t u (expression_lists l) (target_lists d)
   expression_lists {names}
       (lowered.CompoundVariable at there name operator applied right symbol identifier s t u q p is mutable applies l m f) =
       lists_then s t _ (expression_lists l)
@@ -271,6 +279,38 @@ mutual
       (lists_sequence_ended (sequence_at s at.span) s2 p at.span refl))
   expression_lists (lowered.Chain at e s t p l) = spine_lists l
 
+  pub moved_lists : {names : Names} {e : Syntax} {s t : State} {p : Place} → LoweredMoved names e s t p → ListsSince s t
+  moved_lists (lowered.Stays e s t p is d) = expression_lists d
+  moved_lists (lowered.Moved at w fields s t p is d) =
+      let noted : Diagnostic = diagnostic_at row.F29 (type_name w) at.span in
+      lists_then s (recorded s noted) t (lists_noted s noted) (expression_lists d)
+
+  pub target_lists : {names : Names} {at : Span} {value : Place} {e : Syntax} {s t : State} {p : Place}
+      → LoweredTarget names at value e s t p → ListsSince s t
+  target_lists {names} {at} {value} (lowered.TargetVariable there name symbol identifier s is mutable f) =
+      lists_found_value names s symbol there.span (assigned_to identifier at value) (Some at) refl
+  target_lists {names} (lowered.TargetConstant there name symbol identifier s is constant f) =
+      let first : State = found names s symbol there.span in
+      lists_then s first _ (lists_found names s symbol there.span)
+      (lists_noted first (diagnostic_at row.F6 (names.name symbol.0) there.span))
+  target_lists {at} {value} (lowered.TargetGlobal there name binding s is) = lists_value s (values.StoreGlobal name value) (Some at) refl
+  target_lists {at} {value} (lowered.TargetMember there w fields parts pieces object key s t is l) =
+      lists_then s t _ (all_lists l) (lists_value t (store_of object key value) (Some at) (store_plain object key value))
+  target_lists (lowered.TargetLost there w fields s is) = lists_noted s (refusal (row_of_head w) there.span)
+  target_lists {value} (lowered.TargetDefaulted there w fields target default s t u q p is d dt) =
+      lists_then s (default_ended (default_at s there.span value) t q) u
+      (lists_default s t q value there.span (moved_lists d)) (target_lists dt)
+  target_lists {at} {value}
+      (lowered.TargetPattern there w of_object forced items rest pattern pieces later s t u v is ahead taken are l) =
+      let apart : InstructionValue = destructured variables.Reassign pattern value in
+      lists_then s t v (lists_stays (ahead_stays ahead))
+      (lists_then t u v (lists_stays (taken_stays taken))
+      (lists_then u (with_value u apart (Some at)) v (lists_value u apart (Some at) refl) (later_lists l)))
+
+  pub later_lists : {names : Names} {later : List Later} {s t : State} → LoweredLater names later s t → ListsSince s t
+  later_lists (lowered.NoLater s) = lists_refl s
+  later_lists (lowered.NextLater value part later s t u p d ds) = lists_then s t u (target_lists d) (later_lists ds)
+
   pub spine_lists : {names : Names} {below : Bool} {e : Syntax} {s t : State} {p : Place} → LoweredSpine names below e s t p
       → ListsSince s t
   spine_lists (lowered.Outermost e s t front p l) = link_lists l
@@ -324,6 +364,44 @@ mutual
   last_lists (lowered.LastPart e s t p l) = expression_lists l
   last_lists (lowered.EarlierPart e next es s t u p q l more) = lists_then s t u (expression_lists l) (last_lists more)
 
+mutual
+  pub pattern_lists : {names : Names} {again : Bool} {k : InstructionKind} {at : Span} {value : Place} {e : Syntax} {s t : State}
+      {p : Place} → LoweredPattern names again k at value e s t p → ListsSince s t
+  pattern_lists {names} {again} {k} {at} {value} (lowered.BoundName bind name type symbol identifier s annotated is f) =
+      let here : State = met again names s symbol identifier bind.span in
+      lists_then s here _ (lists_stays (stays_met again names s symbol bind.span identifier f))
+      (lists_value here (values.StoreLocal k (variable_at identifier at) value) (Some at) refl)
+  pattern_lists {value} (lowered.BoundDefault there pattern default s t u q p d dt) =
+      lists_then s (default_ended (default_at s there.span value) t q) u
+      (lists_default s t q value there.span (moved_lists d)) (pattern_lists dt)
+  pattern_lists {k} {at} {value} (lowered.BoundPattern there w of_object items rest pattern pieces later s u v is bound are l) =
+      let apart : InstructionValue = destructured k pattern value in
+      lists_then s u v (lists_stays (bound_stays bound))
+      (lists_then u (with_value u apart (Some at)) v (lists_value u apart (Some at) refl) (bound_lists l))
+
+  pub bound_lists : {names : Names} {again : Bool} {k : InstructionKind} {later : List Later} {s t : State}
+      → LoweredBound names again k later s t → ListsSince s t
+  bound_lists (lowered.NothingBound s) = lists_refl s
+  bound_lists (lowered.NextBound value part later s t u p d ds) = lists_then s t u (pattern_lists d) (bound_lists ds)
+
+pub params_lists : {names : Names} {es : Pieces} {rest : Syntax} {s t : State} {ps : List Param}
+    → LoweredParams names es rest s t ps → ListsSince s t
+params_lists (lowered.NoParam s) = lists_refl s
+params_lists (lowered.RestParam there pattern s t p d) =
+    let made : State = with_temporary s (Some there.span) in
+    lists_then s made t (lists_same s made refl) (pattern_lists d)
+params_lists {names} (lowered.PlainParam there bind name type rest more symbol identifier s t ps annotated is f ds) =
+    lists_then s _ t (lists_found names s symbol bind.span) (params_lists ds)
+params_lists (lowered.PatternParam there pattern rest more s t u p ps is d ds) =
+    lists_then s (promoted s there.span) u (lists_same s (promoted s there.span) refl)
+    (lists_then _ t u (pattern_lists d) (params_lists ds))
+params_lists (lowered.DefaultParam there pattern default rest more s t u v q p ps d dt ds) =
+    let x : State = promoted s there.span in
+    let ended : State = default_ended (default_at x there.span (caught s there.span)) t q in
+    lists_then s x v (lists_same s x refl)
+    (lists_then x ended v (lists_default x t q (caught s there.span) there.span (moved_lists d))
+    (lists_then ended u v (pattern_lists dt) (params_lists ds)))
+
 declarators_lists : {names : Names} {at : Span} {k : InstructionKind} {es : Pieces} {s t : State}
     → LoweredDeclarators names at k es s t → ListsSince s t
 declarators_lists (lowered.NoDeclarator s) = lists_refl s
@@ -332,6 +410,12 @@ declarators_lists {names} (lowered.NextDeclared there bind name type more symbol
 declarators_lists {names} {at} (lowered.NextInitialized there bind name type init more symbol identifier s t u p annotated is l f ls) =
     lists_then s t u (expression_lists l)
     (lists_then t _ u (lists_found_value names t symbol bind.span _ (Some at) refl) (declarators_lists ls))
+declarators_lists (lowered.NextTakenApart there pattern init more s t u v p q is present d dp ds) =
+    lists_then s t v (expression_lists d) (lists_then t u v (pattern_lists dp) (declarators_lists ds))
+declarators_lists {at} (lowered.NextUntaken there pattern more s u v q is dp ds) =
+    let made : State = with_value s (values.Primitive primitives.Undefined) (Some at) in
+    lists_then s made v (lists_value s (values.Primitive primitives.Undefined) (Some at) refl)
+    (lists_then made u v (pattern_lists dp) (declarators_lists ds))
 
 lists_returned : (s : State) (span : Option Span) (place : Place) → ListsSince s (returned_from s span returns.Explicit place blocks.Block)
 lists_returned s span place =
@@ -398,6 +482,8 @@ head_lists {names} (lowered.ReassignedConstant at name symbol identifier s is co
 head_lists {value} (lowered.StoredGlobal at name binding s is) = lists_value s (values.StoreGlobal name value) (Some at.span) refl
 head_lists {value} (lowered.StoredMember at w fields parts pieces object key s t is l) =
     lists_then s t _ (all_lists l) (lists_value t (store_of object key value) (Some at.span) (store_plain object key value))
+head_lists (lowered.DeclaredPattern at there kind pattern s t p is d) = pattern_lists d
+head_lists (lowered.StoredPattern at w fields s t p is d) = target_lists d
 head_lists (lowered.Lost at w fields s is) = lists_noted s (refusal (row_of_head w) at.span)
 
 mutual

@@ -4,6 +4,7 @@ use Rattle.std.proofs.Common.{Option, Some, None, refl, sym, ap, ◌∙◌, subs
 use Rattle.std.proofs.lemmas.List.Elements.{All-append, All-cons, All-head, All-nil, All-push, All-tail}
 use Rattle.rl_base.specs.declared.ids.BlockId.{BlockId}
 use Rattle.rl_base.specs.declared.ids.InstructionId.{InstructionId}
+use Rattle.rl_base.specs.declared.operator.BinaryOperator.TheVariants as operator
 use Rattle.rl_base.specs.declared.span.Span.{Span}
 use Rattle.rl_builder.specs.Builder.{State, completed_by, ended_by, entered, innermost, maybe_throw, new_block, plainly_pushed, pushed}
 use Rattle.rl_builder.specs.Builder.{pushed_under, reserved, with_temporary}
@@ -31,10 +32,12 @@ use Rattle.rl_hir.specs.declared.terminal.Terminal.{Terminal}
 use Rattle.rl_hir.specs.declared.terminal.TerminalKind.TheVariants as kinds
 use Rattle.rl_hir.specs.Numbered.{listed_in}
 use Rattle.rl_lowered.proofs.ChainFrames.{linked_state}
+use Rattle.rl_lowered.proofs.ItemBlocks.{Stays}
 use Rattle.rl_lowered.proofs.Occurring.{occurs_append, occurs_blocks, occurs_numbers, within_last, within_none, within_then}
 use Rattle.rl_lowered.specs.Listing.{ListsSince, ListsTable, all_listed, occurrences, one_within}
-use Rattle.rl_optional_frames.specs.Frames.{link_at, link_objected}
-use Rattle.rl_optional_frames.specs.Parts.{link_opened}
+use Rattle.rl_optional_frames.specs.Frames.{default_at, default_ended, default_tested, link_at, link_objected}
+use Rattle.rl_optional_frames.specs.Parts.{compared, comparison, default_begun, default_end, default_given, default_other, link_opened}
+use Rattle.rl_optional_frames.specs.Parts.{undefined_made}
 use Rattle.rl_order.specs.Numbering.{orders_of}
 use Rattle.rl_runs.proofs.Listed.{ListsBelow, numbers, orders_append}
 use Rattle.rl_runs.specs.Listed.{AreBelow}
@@ -380,3 +383,38 @@ lists_link None s s2 s4 span optional object value o k =
     (lists_then y x _ (early_from s span)
     (link_from x s2 s4 optional s.env.next_block (s.env.next_block + 1) (s.env.next_block + 1 + 1) s.current.kind span object
     (temporary s (Some span)) value o k))
+
+-- The moves of the items of a pattern.
+pub lists_stays : {s t : State} → Stays s t → ListsSince s t
+lists_stays {s} {t} a = lists_same s t same
+  where
+    same : lists_of s ≡ lists_of t
+    same = λ i. record { completed = sym a.completed i; listed = (sym a.current i).instructions; table = sym a.table i }
+
+-- A default.
+pub lists_default : (s s2 : State) (default value : Place) (span : Span) → ListsSince (default_begun s span) s2
+    → ListsSince s (default_ended (default_at s span value) s2 default)
+lists_default s s2 default value span k =
+    let n : ℕ = s.env.next_block in
+    let f : ℕ = n + 1 in
+    let outer : List InstructionId = s.current.instructions in
+    let place : Place = temporary s (Some span) in
+    let begun : State = default_begun s span in
+    let valued : State = stored_in s2 place default span in
+    let between : State = default_given s2 f place default span in
+    let gone : State = last_hole (stored_in between place value span) f gotos.Break span s.current in
+    let tested : State = default_tested (default_at s span value) s2 default in
+    let made : State = undefined_made tested span in
+    let met : State = compared tested value span in
+    lists_then s (beside outer begun) _ (lists_entered s begun refl refl refl)
+    (lists_then (beside outer begun) (beside outer s2) _ (lists_beside outer begun s2 k)
+    (lists_then (beside outer s2) (beside outer between) _
+    (lists_beside outer s2 between
+    (lists_then s2 valued between (lists_stored s2 place default span) (lists_next valued f gotos.Break span blocks.Value)))
+    (lists_then (beside outer between) gone _ (lists_stored_last between place value span span f s.current)
+    (lists_then gone tested _ (lists_completed gone (default_end n f span) (new_block n blocks.Value) refl)
+    (lists_then tested made _ (lists_value tested (values.Primitive primitives.Undefined) (Some span) refl)
+    (lists_then made met _
+    (lists_value made (values.BinaryExpression operator.StrictEquality value (temporary tested (Some span))) (Some span) refl)
+    (lists_completed met (branch (comparison tested span) (n + 1 + 1) (default_other s2 place default span) f span)
+    (new_block f s.current.kind) refl)))))))

@@ -1,18 +1,21 @@
 -- The meaning of each kind whose value is one instruction over the values of its parts: their values, and then its event.
-use Rattle.std.proofs.Common.{◌≡◌, ℕ, ◌++◌, ◌&&◌, not, Bool, true, false, if◌then◌else◌, List, [], ◌∷◌, codes, true≢false, refl, sym, ap, ◌∙◌}
+use Rattle.std.proofs.Common.{◌≡◌, ℕ, ◌++◌, ◌&&◌, not, Bool, true, false, if◌then◌else◌, List, [], ◌∷◌, codes, Some, true≢false, refl, sym, ap, ◌∙◌}
 use Rattle.rl_base.specs.declared.diagnostic.Diagnostic.{Diagnostic}
 use Rattle.rl_base.specs.declared.row.Row.TheVariants as row
-use Rattle.rl_base.specs.Operators.{unary_text}
+use Rattle.rl_base.specs.declared.operator.AssignmentOperator.{AssignmentOperator}
+use Rattle.rl_base.specs.declared.operator.BinaryOperator.{BinaryOperator}
+use Rattle.rl_base.specs.Operators.{assignment_text, unary_text}
 use Rattle.rl_builder.specs.Builder.{State}
 use Rattle.rl_hir.specs.declared.instruction.InstructionValue.{InstructionValue}
 use Rattle.rl_hir.specs.declared.instruction.InstructionValue.TheVariants as values
 use Rattle.rl_hir.specs.declared.instruction.Place.{Place}
 use Rattle.rl_hir.specs.declared.instruction.PrimitiveValue.{PrimitiveValue}
 use Rattle.rl_hir.specs.Pieces.{Piece, gathered, texts, value_pieces}
-use Rattle.rl_lowered.proofs.Clean.{private_never, refused_never, refusing_never, row_clean}
+use Rattle.rl_lowered.proofs.Clean.{compound_clean, private_never, refused_never, refusing_never, row_clean}
 use Rattle.rl_lowered.proofs.Forms.{event_with, form_event, key_by, quasi_texts}
 use Rattle.rl_lowered.proofs.Plain.{all_shapes, first_value, lowered_plain, one_part, two_parts}
-use Rattle.rl_lowered.specs.Forms.{IsCast, IsForm, IsInside, IsLiteral, IsMember, IsPrivate, IsWrapper, MemberKey, is_number_key}
+use Rattle.rl_lowered.specs.Forms.{IsCast, IsForm, IsInside, IsLiteral, IsMember, IsPrivate, IsWrapper, MemberKey, PrivateUpdate, applied_by}
+use Rattle.rl_lowered.specs.Forms.{is_number_key}
 use Rattle.rl_lowered.specs.Forms as forms
 use Rattle.rl_lowered.specs.Lowered.{Lowered, LoweredAll, NoPart, NextPart}
 use Rattle.rl_lowered.specs.Lowered as lowered
@@ -24,15 +27,14 @@ use Rattle.rl_model.specs.Actions.{Action, Ways, ◌>>=◌, ask, give, no_meanin
 use Rattle.rl_model.specs.Events.{Key, computed_key, delete, event, fixed_key, load, unary}
 use Rattle.rl_model.specs.Expressions.{callee, call_kind, delete_property, eval, first_piece, key_in, later_pieces, one_value, place, values as values_in}
 use Rattle.rl_model.specs.Scene.{Scene}
-use Rattle.rl_model.specs.Shapes.{is_link, lends, quasis, shapes}
+use Rattle.rl_model.specs.Shapes.{is_link, lends, lends_receiver, quasis, shapes}
 use Rattle.rl_names.specs.Names.{Names}
-use Rattle.rl_promises.proofs.CoveredMeanings.{port_lends_nothing}
 use Rattle.rl_promises.specs.Rows.{refusal, refusals, refusals_in}
 use Rattle.rl_promises.specs.Tallies.{call_word}
 use Rattle.rl_syntax.specs.declared.numbered.At.{At}
 use Rattle.rl_syntax.specs.declared.word.Word.{Word}
 use Rattle.rl_syntax.specs.declared.word.Word.TheVariants as word
-use Rattle.rl_syntax.specs.Syntax.{Syntax, Node, Said, Flag, Pieces, End, Then}
+use Rattle.rl_syntax.specs.Syntax.{Absent, Syntax, Node, Said, Flag, Pieces, End, Then}
 use Rattle.rl_text.specs.Numeral.{number_of}
 
 -- A key in brackets that is neither a numeral nor refused is computed.
@@ -45,6 +47,10 @@ computed_there names (Node at word.Num (Then (Said text) End)) computed other no
     never : {d : Diagnostic} → d ∷ [] ≡ [] → ⊥
     never e = cc
 computed_there names _ computed other none = refl
+
+-- In the port's run a callee that is no property lends no object.
+port_lends_nothing : (scene : Scene) (e : Syntax) → scene.ported ≡ true → is_link e ≡ false → lends_receiver scene e ≡ false
+port_lends_nothing scene e ported none = ap (λ (b : Bool). if b then is_link e else lends e) ported ∙ none
 
 -- Properties: the object and the key, which are loaded, or deleted.
 
@@ -198,3 +204,15 @@ form_means {names} (forms.Tagged {tag} {texts = said} {es} {t} {quasis = given} 
     else one_value (eval scene tag)) es (codes "place" ∷ quasis said ++ shapes es) else no_meaning) ways k source answers) raw)
 form_means forms.RegExp (NoPart _) none scene ported at ways k source answers = refl
 form_means forms.ImportMeta (NoPart _) none scene ported at ways k source answers = refl
+
+-- A compound assignment to a property of a private name has refusals.
+pub private_compound_never : {names : Names} {s t : State} {q : Place} (at there : At) (fields : Pieces) (right : Syntax)
+    (operator : AssignmentOperator) (applied : BinaryOperator) → applied_by operator ≡ Some applied
+    → Lowered names (Node there word.Privatemember fields) s t q
+    → refusals names
+    (Node at word.Assign (Then (Said (assignment_text operator)) (Then (Node there word.Privatemember fields) (Then right End)))) ≡ [] → ⊥
+private_compound_never {names} at there fields right operator applied applies d none =
+    let update : Pieces = Then Absent (Then Absent (Then (Node there word.Privatemember fields) End)) in
+    let is : IsPrivate word.Update update (Node there word.Privatemember fields) = PrivateUpdate in
+    private_member_never is d
+    (compound_clean names at (Node there word.Privatemember fields) right operator applied applies refl none).0

@@ -19,22 +19,29 @@ use Rattle.rl_frames.specs.SwitchParts.{switch_begun}
 use Rattle.rl_hir.specs.declared.function.Identifier.{Identifier}
 use Rattle.rl_hir.specs.declared.function.IdentifierName.TheVariants.{Named}
 use Rattle.rl_hir.specs.declared.function.Pair.{Pair}
+use Rattle.rl_hir.specs.declared.function.Param.{Param}
+use Rattle.rl_hir.specs.declared.instruction.InstructionKind.{InstructionKind}
 use Rattle.rl_hir.specs.declared.instruction.InstructionValue.{InstructionValue}
 use Rattle.rl_hir.specs.declared.instruction.Place.{Place}
 use Rattle.rl_hir.specs.declared.terminal.Case.{Case}
 use Rattle.rl_hir.specs.Pairs.{identifier_of, pair}
 use Rattle.rl_hir.specs.Pieces.{Piece}
-use Rattle.rl_lowered.proofs.Carried.{IsCarried, Naming, naming, all_carried, body_carried, carried_catch_begun, carried_link_opened}
+use Rattle.rl_lowered.proofs.Carrying.{IsCarried, Naming, naming}
+use Rattle.rl_lowered.proofs.Carried.{later_carried, left_carried, moved_carried, params_carried, pattern_carried, target_carried}
+use Rattle.rl_lowered.proofs.Carried.{all_carried, body_carried, carried_catch_begun, carried_link_opened}
 use Rattle.rl_lowered.proofs.Carried.{carried_logical_begun, carried_logical_righted, carried_sequence_begun, carried_ternary_alternated}
 use Rattle.rl_lowered.proofs.Carried.{carried_ternary_begun, carried_ternary_consequent, carried_value, case_test_carried, cases_carried}
 use Rattle.rl_lowered.proofs.Carried.{expression_carried, front_carried, head_carried, init_carried, last_carried, link_carried}
 use Rattle.rl_lowered.proofs.Carried.{loop_carried, spine_carried, statement_carried, statements_carried, test_carried}
 use Rattle.rl_lowered.proofs.Catches.{length_promoted}
+use Rattle.rl_lowered.proofs.ItemCarried.{bound_carried}
 use Rattle.rl_lowered.proofs.Redeclared.{names_redeclared}
 use Rattle.rl_lowered.specs.Forms.{Front}
+use Rattle.rl_lowered.specs.Items.{BoundItems, Later, found_again, promoted}
+use Rattle.rl_lowered.specs.Lowered.{LoweredBound, LoweredLater, LoweredMoved, LoweredParams, LoweredPattern, LoweredTarget}
 use Rattle.rl_lowered.specs.Lowered.{Lowered, LoweredBody, LoweredCaseTest, LoweredCases, LoweredFront, LoweredHead, LoweredInit}
 use Rattle.rl_lowered.specs.Lowered.{LoweredLast, LoweredLink, LoweredLoop, LoweredParts, LoweredSpine, LoweredStatement}
-use Rattle.rl_lowered.specs.Lowered.{LoweredStatements, LoweredTest, catch_begun, found_again, promoted}
+use Rattle.rl_lowered.specs.Lowered.{LoweredStatements, LoweredTest, catch_begun}
 use Rattle.rl_lowered.specs.Named.{IsFound, IsNamed, KeepsNames, declared_span, found}
 use Rattle.rl_model.specs.Actions.{Label}
 use Rattle.rl_names.specs.Names.{Names}
@@ -239,7 +246,7 @@ names_found_again {names} s symbol at identifier f =
     names_then s (found names s symbol at) _ (names_found s symbol at identifier f)
     (names_redeclared (found names s symbol at) identifier at)
 
-names_promoted : {names : Names} (s : State) (span : Span) → KeepsNames names s (promoted s span)
+pub names_promoted : {names : Names} (s : State) (span : Span) → KeepsNames names s (promoted s span)
 names_promoted {names} s span = record {
   named = λ n. record {
     knows = n.knows;
@@ -258,7 +265,7 @@ names_promoted {names} s span = record {
 }
 
 -- Each move keeps the names, and so do lowered parts.
-names_carried : {names : Names} → IsCarried names (λ behind s t. KeepsNames names s t)
+pub names_carried : {names : Names} → IsCarried names (λ behind s t. KeepsNames names s t)
 names_carried = record {
   alike = λ {f} {g} s t same k. k;
   chain = λ {f} {g} a b c j k. names_then a b c j k;
@@ -333,6 +340,32 @@ test_names l = test_carried names_carried l
 pub head_names : {names : Names} {value : Place} {e : Syntax} {s t : State} {p : Place} → LoweredHead names value e s t p
     → KeepsNames names s t
 head_names l = head_carried names_carried l
+
+pub moved_names : {names : Names} {e : Syntax} {s t : State} {p : Place} → LoweredMoved names e s t p → KeepsNames names s t
+moved_names l = moved_carried names_carried l
+
+pub target_names : {names : Names} {at : Span} {value : Place} {e : Syntax} {s t : State} {p : Place}
+    → LoweredTarget names at value e s t p → KeepsNames names s t
+target_names l = target_carried names_carried l
+
+pub later_names : {names : Names} {later : List Later} {s t : State} → LoweredLater names later s t → KeepsNames names s t
+later_names l = later_carried names_carried l
+
+pub items_names : {names : Names} {again of_object : Bool} {es : Pieces} {rest : Syntax} {s t : State} {pieces : List Piece}
+    {later : List Later} → BoundItems names again of_object es rest s t pieces later → KeepsNames names s t
+items_names l = bound_carried names_carried l
+
+pub pattern_names : {names : Names} {again : Bool} {k : InstructionKind} {at : Span} {value : Place} {e : Syntax} {s t : State} {p : Place}
+    → LoweredPattern names again k at value e s t p → KeepsNames names s t
+pattern_names l = pattern_carried names_carried l
+
+pub bound_names : {names : Names} {again : Bool} {k : InstructionKind} {later : List Later} {s t : State}
+    → LoweredBound names again k later s t → KeepsNames names s t
+bound_names l = left_carried names_carried l
+
+pub params_names : {names : Names} {es : Pieces} {rest : Syntax} {s t : State} {ps : List Param} → LoweredParams names es rest s t ps
+    → KeepsNames names s t
+params_names l = params_carried names_carried l
 
 pub case_test_names : {names : Names} {e : Syntax} {s t : State} {p : Option Place} → LoweredCaseTest names e s t p → KeepsNames names s t
 case_test_names l = case_test_carried names_carried l

@@ -12,7 +12,7 @@ use Rattle.rl_hir.specs.Identifiers.{changed_at, with_span}
 use Rattle.rl_hir.specs.declared.function.Identifier.{Identifier}
 use Rattle.rl_hir.specs.declared.function.IdentifierName.{IdentifierName}
 use Rattle.rl_hir.specs.declared.function.Pair.{Pair}
-use Rattle.rl_lowered.specs.Lowered.{redeclared}
+use Rattle.rl_lowered.specs.Items.{redeclared}
 use Rattle.rl_lowered.specs.Named.{HasAgain, KeepsNames}
 use Rattle.rl_names.specs.Names.{Names}
 use Rattle.rl_promises.specs.Fields.{IsNamedPair, name_at}

@@ -34,7 +34,8 @@ use Rattle.rl_names.specs.declared.names.Meaning.{Meaning}
 use Rattle.rl_names.specs.declared.names.Meaning.TheVariants.{Local, Outer}
 use Rattle.rl_promises.proofs.CoveredForms.{none_fits}
 use Rattle.rl_promises.specs.Outs.{is_known_key, is_lost_head, is_wrapped}
-use Rattle.rl_promises.specs.Rows.{is_eval, label_of, refusal, refusals, refusals_at_head, refusals_below, refusals_in, row_of_head}
+use Rattle.rl_promises.specs.Patterns.{is_pattern}
+use Rattle.rl_promises.specs.Rows.{is_eval, label_of, refusal, refusals, refusals_at_head, refusals_below, refusals_in, refusals_to, row_of_head}
 use Rattle.rl_promises.specs.Rows.{said_of_assigned, said_of_local, said_of_name, said_of_stored, said_of_target, said_of_update}
 use Rattle.rl_promises.specs.Rows.{said_of_updated}
 use Rattle.rl_semantic.specs.Items.{of_item}
@@ -222,26 +223,65 @@ logical_other operator is = by_test (bytes_eq operator (codes "=")) refl
         absurd (let never : false ≡ true = ap (λ (l : List ℕ). is_logical l) (sym equals) ∙ is in cc)
     by_test false same = refl
 
--- An assignment by its operator: `=`, or none of the logical ones.
+-- An assignment by its operator and its target: logical ones, those to patterns, and the others.
+
+abbrev said_of_compound : Names → (at : Span) → (target right : Syntax) → (pattern : Bool) → List Diagnostic
+said_of_compound names at target right pattern =
+    if pattern then refusal row.F24 at ∷ [] else refusals names target ++ refusals names right ++ said_of_updated names target
+
 assign_refuses : (names : Names) (at : At) (operator : List ℕ) (target right : Syntax) (logical : Bool)
     → bytes_eq operator (codes "=") ≡ false → is_logical operator ≡ logical
     → refusals names (Node at word.Assign (Then (Said operator) (Then target (Then right End))))
-    ≡ (if logical then refusal row.F23 at.span ∷ []
-    else refusals names target ++ refusals names right ++ said_of_updated names target)
+    ≡ (if logical then refusal row.F23 at.span ∷ [] else said_of_compound names at.span target right (is_pattern target))
 assign_refuses names at operator target right logical other is =
-    ap (λ (b : Bool). if b then refusals names right ++ said_of_assigned names at.span target (refusals_below names target)
+    ap (λ (b : Bool). if b then refusals names right
+    ++ (if is_pattern target then refusals_to names target else said_of_assigned names at.span target (refusals_below names target))
     else if is_logical operator then refusal row.F23 at.span ∷ []
-    else refusals names target ++ refusals names right ++ said_of_updated names target) other
+    else said_of_compound names at.span target right (is_pattern target)) other
     ∙ ap (λ (b : Bool). if b then refusal row.F23 at.span ∷ []
-    else refusals names target ++ refusals names right ++ said_of_updated names target) is
+    else said_of_compound names at.span target right (is_pattern target)) is
 
 pub compound_refuses : (names : Names) (at : At) (target right : Syntax) (operator : AssignmentOperator) (applied : BinaryOperator)
-    → applied_by operator ≡ Some applied
+    → applied_by operator ≡ Some applied → is_pattern target ≡ false
     → refusals names (Node at word.Assign (Then (Said (assignment_text operator)) (Then target (Then right End))))
     ≡ refusals names target ++ refusals names right ++ said_of_updated names target
-compound_refuses names at target right operator applied applies =
+compound_refuses names at target right operator applied applies whole =
     let plain = applied_plain operator applied applies in
     assign_refuses names at (assignment_text operator) target right false plain.0 plain.1
+    ∙ ap (λ (b : Bool). said_of_compound names at.span target right b) whole
+
+pattern_refuses : (names : Names) (at : At) (target right : Syntax) (operator : AssignmentOperator) (applied : BinaryOperator)
+    → applied_by operator ≡ Some applied → is_pattern target ≡ true
+    → refusals names (Node at word.Assign (Then (Said (assignment_text operator)) (Then target (Then right End))))
+    ≡ refusal row.F24 at.span ∷ []
+pattern_refuses names at target right operator applied applies taken =
+    let plain = applied_plain operator applied applies in
+    assign_refuses names at (assignment_text operator) target right false plain.0 plain.1
+    ∙ ap (λ (b : Bool). said_of_compound names at.span target right b) taken
+
+-- `=` by its target.
+
+abbrev said_of_taken : Names → (at : Span) → (target : Syntax) → (pattern : Bool) → List Diagnostic
+said_of_taken names at target pattern =
+    if pattern then refusals_to names target else said_of_assigned names at target (refusals_below names target)
+
+pub assigned_refuses : (names : Names) (at : At) (target right : Syntax) → is_pattern target ≡ false
+    → refusals names (Node at word.Assign (Then (Said (codes "=")) (Then target (Then right End))))
+    ≡ refusals names right ++ said_of_assigned names at.span target (refusals_below names target)
+assigned_refuses names at target right whole =
+    ap (λ (b : Bool). refusals names right ++ said_of_taken names at.span target b) whole
+
+pub assigned_pattern_refuses : (names : Names) (at : At) (target right : Syntax) → is_pattern target ≡ true
+    → refusals names (Node at word.Assign (Then (Said (codes "=")) (Then target (Then right End))))
+    ≡ refusals names right ++ refusals_to names target
+assigned_pattern_refuses names at target right taken =
+    ap (λ (b : Bool). refusals names right ++ said_of_taken names at.span target b) taken
+
+-- A property is no pattern.
+pub member_whole : {w : NodeWord} {fields parts : Pieces} {pieces : List Piece} {object : Place} {key : MemberKey}
+    → IsMember w fields parts pieces object key → (there : At) → is_pattern (Node there w fields) ≡ false
+member_whole forms.Static there = refl
+member_whole _ there = refl
 
 pub assigned_member_refuses : (names : Names) (at there : At) (right : Syntax) {w : NodeWord} {fields parts : Pieces}
     {pieces : List Piece} {object : Place} {key : MemberKey} → IsMember w fields parts pieces object key
@@ -264,7 +304,7 @@ pub compound_member_refuses : (names : Names) (at there : At) (right : Syntax) (
     → refusals names (Node at word.Assign (Then (Said (assignment_text operator)) (Then (Node there w fields) (Then right End))))
     ≡ refusals_in names parts ++ refusals names right
 compound_member_refuses names at there right operator applied applies {w} {fields} is =
-    compound_refuses names at (Node there w fields) right operator applied applies
+    compound_refuses names at (Node there w fields) right operator applied applies (member_whole is there)
     ∙ ap (λ (l : List Diagnostic). refusals names (Node there w fields) ++ refusals names right ++ l) (member_unsaid names there is)
     ∙ append-nil (refusals names (Node there w fields) ++ refusals names right)
     ∙ ap (λ (l : List Diagnostic). l ++ refusals names right) (member_refuses names there is)
@@ -290,6 +330,8 @@ refused_refuses names at (forms.WrappedUpdate {target} is) = wrapped_said names 
 refused_refuses names at (forms.OuterUpdate {there} is) = ap (λ (m : Meaning). said_of_update names at.span there.span m) is
 refused_refuses names at (forms.LogicalAssignment {operator} {target} {right} is) =
     assign_refuses names at operator target right true (logical_other operator is) is
+refused_refuses names at (forms.PatternAssignment operator {applied} {target} {right} applies taken) =
+    pattern_refuses names at target right operator applied applies taken
 refused_refuses names at _ = refl
 
 pub refusing_refuses : (names : Names) (at : At) {w : NodeWord} {fields parts : Pieces} {r : Row} → IsRefusing w fields parts r

@@ -1,32 +1,19 @@
 -- The diagnostics that the lowering of a part records: the part's refusals, in the order of the walk.
-use Rattle.std.proofs.Common.{◌≡◌, ◌≢◌, ℕ, ◌&&◌, ◌++◌, Bool, true, false, if◌then◌else◌, List, [], ◌∷◌, Option, Some, None, codes}
-use Rattle.std.proofs.Common.{append-nil, append_assoc, refl, sym, ap, ◌∙◌, subst, unwrap_or, is_some}
-use Rattle.std.proofs.lemmas.Slice.Eq.{bytes_eq-Decides}
-use Rattle.std.specs.Option.{option_map, option_map_or}
-use Rattle.std.specs.Str.{bytes_eq}
+use Rattle.std.proofs.Common.{◌≡◌, ℕ, ◌+◌, ◌++◌, Bool, true, false, if◌then◌else◌, List, [], ◌∷◌, Option, Some, None}
+use Rattle.std.proofs.Common.{append-nil, append_assoc, refl, ap, ◌∙◌, subst, is_some}
 use Rattle.rl_base.specs.declared.diagnostic.Diagnostic.{Diagnostic}
 use Rattle.rl_base.specs.declared.ids.BlockId.{BlockId}
 use Rattle.rl_base.specs.declared.ids.SymbolId.{SymbolId}
-use Rattle.rl_base.specs.declared.operator.UpdateOperator.{UpdateOperator}
 use Rattle.rl_base.specs.declared.row.Row.TheVariants as row
 use Rattle.rl_base.specs.declared.span.Span.{Span}
-use Rattle.rl_base.specs.declared.type_kind.TypeKind.{TypeKind}
-use Rattle.rl_base.specs.declared.type_kind.TypeKind.TheVariants as types
-use Rattle.rl_base.specs.declared.variable_kind.VariableKind.{VariableKind}
-use Rattle.rl_base.specs.declared.variable_kind.VariableKind.TheVariants as kinds
 use Rattle.rl_base.specs.Diagnostics.{diagnostic_at}
 use Rattle.rl_base.specs.Operators.{update_text}
-use Rattle.rl_base.specs.VariableKinds.{variable_text}
-use Rattle.rl_bindings.specs.declared.event.Bound.{Bound}
-use Rattle.rl_builder.specs.Builder.{State, entered, innermost, new_block, pushed, pushed_under, recorded, reserved, with_temporary}
-use Rattle.rl_builder.specs.Names.{fbt_label, resolved_by}
-use Rattle.rl_builder.specs.Temporaries.{temporary, unordered, with_value}
+use Rattle.rl_builder.specs.Builder.{State, innermost, recorded, reserved}
+use Rattle.rl_builder.specs.Temporaries.{temporary, with_value}
 use Rattle.rl_frames.specs.Frames.{LogicalParts, TernaryParts, logical_at, sequence_at, ternary_at}
-use Rattle.rl_frames.specs.Parts.{chain_reserved, loads, logical_begun, logical_entered, logical_left, logical_place, try_handler}
+use Rattle.rl_frames.specs.Parts.{loads, try_handler}
 use Rattle.rl_frames.specs.Rounds.{ForOfParts, RoundsParts, forin_at, forin_headed, forof_at, forof_headed, forof_iterator, forof_shut}
 use Rattle.rl_frames.specs.Rounds.{forof_tested, rounds_shut}
-use Rattle.rl_hir.specs.declared.function.BlockKind.TheVariants as blocks
-use Rattle.rl_hir.specs.declared.instruction.Instruction.{Instruction}
 use Rattle.rl_hir.specs.declared.instruction.InstructionKind.{InstructionKind}
 use Rattle.rl_hir.specs.declared.instruction.InstructionKind.TheVariants as variables
 use Rattle.rl_hir.specs.declared.instruction.InstructionValue.{InstructionValue}
@@ -34,13 +21,26 @@ use Rattle.rl_hir.specs.declared.instruction.InstructionValue.TheVariants as val
 use Rattle.rl_hir.specs.declared.instruction.Place.{Place}
 use Rattle.rl_hir.specs.declared.instruction.PrimitiveValue.TheVariants as primitives
 use Rattle.rl_hir.specs.declared.terminal.Case.{Case}
-use Rattle.rl_hir.specs.Pairs.{identifier_of}
 use Rattle.rl_hir.specs.Pieces.{Piece}
 use Rattle.rl_lowered.proofs.Blocks.{blocks_caught, cases_blocks, declares_of, expression_blocks, init_blocks, statement_blocks}
 use Rattle.rl_lowered.proofs.Catches.{catch_declared, declares_caught, stores_caught}
 use Rattle.rl_lowered.proofs.Clean.{finalizer_said}
 use Rattle.rl_lowered.proofs.CleanChains.{spine_place}
 use Rattle.rl_lowered.proofs.Plain.{init_said, lowered_plain, test_unsaid}
+use Rattle.rl_lowered.proofs.ItemRefused.{bound_refused, left_rows, left_rows_are, met_refused, pattern_rows}
+use Rattle.rl_lowered.proofs.TakenRefused.{left_taken, left_taken_are, look_refused, taken_refused, taking_rows}
+use Rattle.rl_lowered.proofs.TargetForms.{ahead_forced, defaulted_refuses, lost_target_refuses, member_target, pattern_head_refuses}
+use Rattle.rl_lowered.proofs.Refusals.{assigned_pattern_refuses}
+use Rattle.rl_hir.specs.declared.function.Param.{Param}
+use Rattle.rl_lowered.specs.Items.{Later, caught, destructured, met}
+use Rattle.rl_lowered.specs.Lowered.{LoweredBound, LoweredLater, LoweredMoved, LoweredParams, LoweredPattern, LoweredTarget}
+use Rattle.rl_optional_frames.specs.Frames.{default_at, default_ended, default_tested}
+use Rattle.rl_optional_frames.specs.Parts.{default_given}
+use Rattle.rl_promises.specs.Rows.{refusals_to}
+use Rattle.rl_lowered.proofs.Records.{begun_said, constant_said, declaring_said, found_said, found_value_said}
+use Rattle.rl_lowered.proofs.Records.{link_ended_said, link_opened_said, member_said, noted_said}
+use Rattle.rl_lowered.proofs.Records.{pushed_said, records_all, records_before, records_behind, records_none, records_same, records_then}
+use Rattle.rl_lowered.proofs.Records.{records_unit, said, stored_said, typed_said, value_said}
 use Rattle.rl_lowered.proofs.Refusals.{assigned_member_refuses, bind_refuses, cast_refuses, compound_member_refuses, compound_refuses}
 use Rattle.rl_lowered.proofs.Refusals.{computed_refuses, constant_refuses, declared_head_refuses, form_refuses, fraction_refuses}
 use Rattle.rl_lowered.proofs.Refusals.{literal_refuses, lost_head_refuses, member_head_refuses, method_refuses, name_refuses}
@@ -48,209 +48,47 @@ use Rattle.rl_lowered.proofs.Refusals.{outer_head_refuses, outer_refuses, privat
 use Rattle.rl_lowered.proofs.Refusals.{refusing_refuses, stored_head_refuses, unknown_refuses, update_refuses, updated_member_refuses}
 use Rattle.rl_lowered.proofs.Refusals.{wrapper_refuses}
 use Rattle.rl_lowered.proofs.Spines.{broken_refuses, front_refuses, link_refuses, lowered_off, outermost_refuses}
-use Rattle.rl_lowered.specs.Forms.{Front, IsAnnotation, MemberKey, call_of, load_of, store_of, typed}
+use Rattle.rl_lowered.specs.Forms.{Front, IsAnnotation, call_of, load_of, store_of, typed}
+use Rattle.rl_lowered.specs.Items.{found_again, promoted, variable_at}
 use Rattle.rl_lowered.specs.Lowered.{Lowered, LoweredBody, LoweredCaseTest, LoweredCases, LoweredDeclarators, LoweredHead, LoweredInit}
 use Rattle.rl_lowered.specs.Lowered.{LoweredFront, LoweredLink, LoweredSpine, private_met}
 use Rattle.rl_lowered.specs.Lowered.{LoweredLast, LoweredLoop, LoweredParts, LoweredStatement, LoweredStatements, LoweredTest, catch_begun}
-use Rattle.rl_lowered.specs.Lowered.{catch_bound, declaring, found_again, label_part, member_computed, member_loaded, member_one}
-use Rattle.rl_lowered.specs.Lowered.{member_stored, member_updated, name_computed, name_stored, promoted, throwing, throwing_under}
-use Rattle.rl_lowered.specs.Lowered.{value_span, variable_at}
+use Rattle.rl_lowered.specs.Lowered.{catch_bound, declaring, label_part, member_computed}
+use Rattle.rl_lowered.specs.Lowered.{name_computed, name_stored, throwing, throwing_under}
+use Rattle.rl_lowered.specs.Lowered.{value_span}
 use Rattle.rl_lowered.specs.Lowered as lowered
-use Rattle.rl_lowered.specs.Named.{IsFound, TellDeclarations, found}
+use Rattle.rl_lowered.specs.Named.{IsFound, found}
 use Rattle.rl_model.specs.Actions.{Label}
 use Rattle.rl_names.specs.declared.names.Meaning.TheVariants.{Local}
 use Rattle.rl_names.specs.Names.{Names}
-use Rattle.rl_optional_frames.specs.Frames.{LinkParts, link_after, link_at, link_ended, link_objected}
-use Rattle.rl_optional_frames.specs.Parts.{link_opened, undefined_made}
-use Rattle.rl_promises.proofs.Covering.{none_in}
+use Rattle.rl_optional_frames.specs.Frames.{LinkParts, link_after, link_at, link_objected}
+use Rattle.rl_optional_frames.specs.Parts.{undefined_made}
 use Rattle.rl_promises.specs.Chains.{Below, Top}
 use Rattle.rl_promises.specs.Moved.{may_move, said_of_moved, type_name}
-use Rattle.rl_promises.specs.Rows.{IsTold, Nothing, Records, Renamed, Told, label_of, refusal, refusals, refusals_among, refusals_at}
+use Rattle.rl_promises.specs.Rows.{Records, label_of, refusal, refusals, refusals_among, refusals_at}
 use Rattle.rl_promises.specs.Rows.{refusals_at_head, refusals_by, refusals_in, refusals_in_body, refusals_in_cases, row_of_head}
 use Rattle.rl_promises.specs.Rows.{said_of_init}
 use Rattle.rl_promises.specs.Rows.{said_of_local, said_of_test, said_of_throw}
-use Rattle.rl_resolver.specs.Lookups.{declaration_ident}
 use Rattle.rl_runs.proofs.Holes.{last_added}
 use Rattle.rl_runs.proofs.Moves.{extends_value}
-use Rattle.rl_runs.specs.Moves.{block_id, stored_in}
+use Rattle.rl_runs.specs.Moves.{block_id}
 use Rattle.rl_syntax.specs.declared.numbered.At.{At}
 use Rattle.rl_syntax.specs.declared.word.Word.TheVariants as word
-use Rattle.rl_syntax.specs.Syntax.{End, Flag, Node, Pieces, Said, Syntax, Then, span_of}
-use Rattle.rl_used_names.specs.IdentifierNames.{fbt, fbt_diagnostic, is_named, name_of}
+use Rattle.rl_syntax.specs.Syntax.{Absent, End, Flag, Node, Pieces, Said, Syntax, Then, span_of}
 
--- The diagnostics so far.
-abbrev pub said : State → List Diagnostic
-said s = s.env.diagnostics
+pub moved_unsaid : (names : Names) (e : Syntax) → may_move names e ≡ true → said_of_moved names e ≡ []
+moved_unsaid names (Node at w fields) is =
+    ap (λ (b : Bool). if b then [] else diagnostic_at row.F29 (type_name w) at.span ∷ []) is
+moved_unsaid names _ is = refl
 
--- The diagnostics that are recorded for a tree, and for others behind it.
-
-told_all : (ds : List Diagnostic) → IsTold ds ds
-told_all [] = Nothing
-told_all (d ∷ ds) = Told d (told_all ds)
-
-told_append : {xs ts ys us : List Diagnostic} → IsTold xs ts → IsTold ys us → IsTold (xs ++ ys) (ts ++ us)
-told_append Nothing more = more
-told_append (Told d rest) more = Told d (told_append rest more)
-told_append (Renamed d is rest) more = Renamed d is (told_append rest more)
-
-pub records_all : (all old new : List Diagnostic) → new ≡ old ++ all → Records all old new
-records_all all old new is =
-    record { told = all; is = is; kept = told_all all; none = λ none. (none_in old all (sym is ∙ none)).1 }
-
-pub records_then : (xs ys a b c : List Diagnostic) → Records xs a b → Records ys b c → Records (xs ++ ys) a c
-records_then xs ys a b c j k = record {
-  told = j.told ++ k.told;
-  is = k.is ∙ ap (λ (l : List Diagnostic). l ++ k.told) j.is ∙ append_assoc a j.told k.told;
-  kept = told_append j.kept k.kept;
-  none = λ none.
-      let before : b ≡ [] = (none_in b k.told (sym k.is ∙ none)).0 in
-      ap (λ (l : List Diagnostic). l ++ ys) (j.none before) ∙ k.none none;
-}
-
--- A tree without refusals, and none of it behind another.
-pub records_none : (all old new : List Diagnostic) → all ≡ [] → new ≡ old → Records all old new
-records_none all old new none same =
-    records_all all old new (same ∙ sym (append-nil old) ∙ ap (λ (l : List Diagnostic). old ++ l) (sym none))
-
-pub records_same : (all others old new : List Diagnostic) → all ≡ others → Records others old new → Records all old new
-records_same all others old new is r = subst (λ (l : List Diagnostic). Records l old new) (sym is) r
-
-records_unit : (all old new : List Diagnostic) → Records all old new → Records (all ++ []) old new
-records_unit all old new r = records_same (all ++ []) all old new (append-nil all) r
-
--- Moves that record nothing, behind a part and before it.
-
-records_behind : (all old new last : List Diagnostic) → last ≡ new → Records all old new → Records all old last
-records_behind all old new last same r = subst (λ (l : List Diagnostic). Records all old l) (sym same) r
-
-records_before : (all first old new : List Diagnostic) → old ≡ first → Records all old new → Records all first new
-records_before all first old new same r = subst (λ (l : List Diagnostic). Records all l new) same r
-
--- Moves that record nothing.
-
-under_said : (o : Option BlockId) (s : State) (i : Instruction) → said (pushed_under o s i) ≡ said s
-under_said None s i = refl
-under_said (Some handler) s i = refl
-
-pushed_said : (s : State) (i : Instruction) → said (pushed s i) ≡ said s
-pushed_said s i = under_said (innermost s.handlers) s i
-
-value_said : (s : State) (v : InstructionValue) (span : Option Span) → said (with_value s v span) ≡ said s
-value_said s v span = pushed_said (with_temporary s span) (unordered (temporary s span) v span)
-
-stored_said : (s : State) (place value : Place) (part : Span) → said (stored_in s place value part) ≡ said s
-stored_said s place value part = value_said s (values.StoreLocal variables.Const place value) (Some part)
-
-begun_said : (s : State) (span left : Span) → said (logical_begun s span left) ≡ said s
-begun_said s span left = stored_said (logical_entered s span left) (logical_place s span) (logical_left s left) left
-
-typed_said : (s : State) (k : TypeKind) → said (typed s k) ≡ said s
-typed_said s types.Array = refl
-typed_said s types.Primitive = refl
-typed_said s types.Other = refl
-
-member_said : (t : State) (object : Place) (key : MemberKey) (operator : UpdateOperator) (there : Span)
-    → said (member_stored t object key operator there) ≡ said t
-member_said t object key operator there =
-    let loaded : State = member_loaded t object key there in
-    let one : State = member_one t object key there in
-    let updated : State = member_updated t object key operator there in
-    value_said updated (store_of object key (temporary one (Some there))) (Some there)
-    ∙ value_said one _ (Some there) ∙ value_said loaded (values.Primitive (primitives.Number 1)) None
-    ∙ value_said t (load_of object key) (Some there)
-
--- A link of a chain begins, and ends.
-
-link_opened_said : (alternate : Option BlockId) (s : State) (span : Span) → said (link_opened alternate s span) ≡ said s
-link_opened_said None s span =
-    let x : State = chain_reserved s span in
-    let begun : State = entered (reserved x) (new_block x.env.next_block blocks.Value) in
-    stored_said (undefined_made begun span) (temporary s (Some span)) (temporary x (Some span)) span
-    ∙ value_said begun (values.Primitive primitives.Undefined) (Some span)
-link_opened_said (Some given) s span = refl
-
-link_ended_said : (f : LinkParts) (s : State) (value : Place) → said (link_ended f s value) ≡ said s
-link_ended_said f s value = stored_said s f.place value f.span
-
--- A diagnostic, and a value behind it.
-noted_said : (s : State) (d : Diagnostic) (v : InstructionValue) (span : Option Span)
-    → Records (d ∷ []) (said s) (said (with_value (recorded s d) v span))
-noted_said s d v span = records_all (d ∷ []) (said s) _ (value_said (recorded s d) v span)
-
--- The keyword of a declaration.
-declaring_said : (s : State) (k : VariableKind) (at : Span)
-    → Records (if bytes_eq (variable_text k) (codes "var") then refusal row.F39 at ∷ [] else []) (said s) (said (declaring s k at))
-declaring_said s kinds.Var at = records_all (refusal row.F39 at ∷ []) (said s) _ refl
-declaring_said s kinds.Let at = records_none [] (said s) _ refl refl
-declaring_said s kinds.Const at = records_none [] (said s) _ refl refl
-declaring_said s kinds.Using at = records_none [] (said s) _ refl refl
-declaring_said s kinds.AwaitUsing at = records_none [] (said s) _ refl refl
-
--- A variable is looked up.
-
-label_by : (o : Option Bound) (at : Span) → option_map_or (λ b. b.span) o at ≡ unwrap_or (option_map (λ b. b.span) o) at
-label_by None at = refl
-label_by (Some b) at = refl
-
--- The builder's label of row F40 is that of the names.
-label_told : (names : Names) (s : State) (symbol : SymbolId) (at : Span) → TellDeclarations names s.semantic
-    → fbt_label s symbol.0 (Some at) ≡ label_of names symbol at
-label_told names s symbol at told =
-    label_by (declaration_ident s.semantic.bindings.symbols symbol.0) at ∙ ap (λ (o : Option Span). unwrap_or o at) (sym (told symbol.0))
-
--- A name `fbt`, and an identifier that still has it.
-known_said : (is still : Bool) (label : Span) (old : List Diagnostic) → (is ≡ true → old ≢ [])
-    → Records (if is then fbt_diagnostic label ∷ [] else []) old (old ++ (if is && still then fbt_diagnostic label ∷ [] else []))
-known_said false still label old noted = records_all [] old _ refl
-known_said true true label old noted = records_all (fbt_diagnostic label ∷ []) old _ refl
-known_said true false label old noted = record {
-  told = [];
-  is = refl;
-  kept = Renamed (fbt_diagnostic label) refl Nothing;
-  none = λ none. absurd (noted refl (sym (append-nil old) ∙ none));
-}
-
-fresh_said : (is : Bool) (label : Span) (old : List Diagnostic)
-    → Records (if is then fbt_diagnostic label ∷ [] else []) old (old ++ (if is && true then fbt_diagnostic label ∷ [] else []))
-fresh_said false label old = records_all [] old _ refl
-fresh_said true label old = records_all (fbt_diagnostic label ∷ []) old _ refl
-
-found_by : (names : Names) (s : State) (symbol : SymbolId) (at : Span) (identifier : ℕ) (known : Option ℕ)
-    → identifier_of s.bindings symbol.0 ≡ known → IsFound names s symbol at identifier
-    → Records (said_of_local (names.name symbol.0) (fbt_label s symbol.0 (Some at))) (said s)
-    (said (resolved_by known s (names.name symbol.0) symbol.0 (Some at)))
-found_by names s symbol at identifier None is f =
-    fresh_said (bytes_eq (names.name symbol.0) fbt) (fbt_label s symbol.0 (Some at)) (said s)
-found_by names s symbol at identifier (Some known) is f =
-    known_said (bytes_eq (names.name symbol.0) fbt) (is_named (name_of s.env.identifiers known) fbt) (fbt_label s symbol.0 (Some at))
-    (said s) (λ test. f.named.noted symbol.0 known is ((bytes_eq-Decides (names.name symbol.0) fbt).0 test))
-
-found_said : (names : Names) (s : State) (symbol : SymbolId) (at : Span) (identifier : ℕ) → IsFound names s symbol at identifier
-    → Records (said_of_local (names.name symbol.0) (label_of names symbol at)) (said s) (said (found names s symbol at))
-found_said names s symbol at identifier f =
-    records_same _ _ (said s) _
-    (ap (λ (label : Span). said_of_local (names.name symbol.0) label) (sym (label_told names s symbol at f.named.declared)))
-    (found_by names s symbol at identifier (identifier_of s.bindings symbol.0) refl f)
-
--- A constant is looked up, and refused (row F6).
-constant_said : (names : Names) (s : State) (symbol : SymbolId) (at : Span) (identifier : ℕ) (span : Option Span)
-    → IsFound names s symbol at identifier
-    → Records (said_of_local (names.name symbol.0) (label_of names symbol at) ++ diagnostic_at row.F6 (names.name symbol.0) at ∷ [])
-    (said s)
-    (said (with_value (recorded (found names s symbol at) (diagnostic_at row.F6 (names.name symbol.0) at))
-    (values.Primitive primitives.Undefined) span))
-constant_said names s symbol at identifier span f =
-    let first : State = found names s symbol at in
-    records_then _ _ (said s) (said first) _ (found_said names s symbol at identifier f)
-    (noted_said first (diagnostic_at row.F6 (names.name symbol.0) at) (values.Primitive primitives.Undefined) span)
-
--- A value behind a look-up.
-found_value_said : (names : Names) (s : State) (symbol : SymbolId) (at : Span) (identifier : ℕ) (v : InstructionValue) (span : Option Span)
-    → IsFound names s symbol at identifier
-    → Records (said_of_local (names.name symbol.0) (label_of names symbol at)) (said s) (said (with_value (found names s symbol at) v span))
-found_value_said names s symbol at identifier v span f =
-    records_behind _ (said s) (said (found names s symbol at)) _ (value_said (found names s symbol at) v span)
-    (found_said names s symbol at identifier f)
+-- A default records nothing behind its expression.
+default_said : (s s2 : State) (value default : Place) (span : Span)
+    → said (default_ended (default_at s span value) s2 default) ≡ said s2
+default_said s s2 value default span =
+    let place : Place = temporary s (Some span) in
+    let tested : State = default_tested (default_at s span value) s2 default in
+    value_said (undefined_made tested span) _ (Some span) ∙ value_said tested (values.Primitive primitives.Undefined) (Some span)
+    ∙ stored_said (default_given s2 (s.env.next_block + 1) place default span) place value span ∙ stored_said s2 place default span
 
 mutual
   pub expression_refused : {names : Names} {e : Syntax} {s t : State} {p : Place} → Lowered names e s t p
@@ -307,12 +145,16 @@ mutual
       (records_then (refusals names object ++ []) (refusal row.F5 at.span ∷ []) (said t) (said u) _
       (records_unit (refusals names object) (said t) (said u) (expression_refused inside))
       (noted_said u (refusal row.F5 at.span) (values.Primitive primitives.Undefined) (Some at.span)))
+  expression_refused {names} (lowered.AssignedPattern at there w fields right s t u p q is l d) =
+      records_same _ _ (said s) (said u) (assigned_pattern_refuses names at (Node there w fields) right is)
+      (records_then (refusals names right) (refusals_to names (Node there w fields)) (said s) (said t) (said u) (expression_refused l)
+      (target_refused d))
   expression_refused {names}
       (lowered.CompoundVariable at there name operator applied right symbol identifier s t u q p is mutable applies l m f) =
       let target : Syntax = Node there word.Id (Then (Said name) End) in
       let computed : State = name_computed u applied q p at.span in
       let stored : State = name_stored names u applied q p at.span there.span symbol identifier in
-      records_same _ _ (said s) _ (compound_refuses names at target right operator applied applies)
+      records_same _ _ (said s) _ (compound_refuses names at target right operator applied applies refl)
       (records_then (refusals names target ++ refusals names right) _ (said s) (said u) _
       (records_then (refusals names target) (refusals names right) (said s) (said t) (said u) (expression_refused l) (expression_refused m))
       (records_same _ _ (said u) _
@@ -324,7 +166,7 @@ mutual
   expression_refused {names}
       (lowered.CompoundConstant at there name operator applied right symbol identifier s t u q p is constant applies l m f) =
       let target : Syntax = Node there word.Id (Then (Said name) End) in
-      records_same _ _ (said s) _ (compound_refuses names at target right operator applied applies)
+      records_same _ _ (said s) _ (compound_refuses names at target right operator applied applies refl)
       (records_then (refusals names target ++ refusals names right) _ (said s) (said u) _
       (records_then (refusals names target) (refusals names right) (said s) (said t) (said u) (expression_refused l) (expression_refused m))
       (records_same _ _ (said u) _ (stored_head_refuses names there name symbol true is constant)
@@ -332,7 +174,7 @@ mutual
   expression_refused {names} (lowered.CompoundGlobal at there name operator applied right binding s t u q p is applies l m) =
       let target : Syntax = Node there word.Id (Then (Said name) End) in
       let computed : State = name_computed u applied q p at.span in
-      records_same _ _ (said s) _ (compound_refuses names at target right operator applied applies)
+      records_same _ _ (said s) _ (compound_refuses names at target right operator applied applies refl)
       (records_then (refusals names target ++ refusals names right) _ (said s) (said u) _
       (records_then (refusals names target) (refusals names right) (said s) (said t) (said u) (expression_refused l) (expression_refused m))
       (records_none _ (said u) _ (outer_head_refuses names there name binding is)
@@ -348,7 +190,7 @@ mutual
       (records_before _ (said t) _ (said u) (value_said t (load_of object key) (Some there.span)) (expression_refused l))))
   expression_refused {names} (lowered.CompoundPrivate at there fields operator applied right s t u q p applies l m) =
       let target : Syntax = Node there word.Privatemember fields in
-      records_same _ _ (said s) _ (compound_refuses names at target right operator applied applies)
+      records_same _ _ (said s) _ (compound_refuses names at target right operator applied applies refl)
       (records_unit (refusals names target ++ refusals names right) (said s) _
       (records_behind _ (said s) (said u) _ (value_said u (values.Primitive primitives.Undefined) (Some at.span))
       (records_then (refusals names target) (refusals names right) (said s) (said t) (said u) (expression_refused l)
@@ -393,6 +235,59 @@ mutual
   expression_refused {names} (lowered.Chain at e s t p l) = records_unit (refusals_by names Top e) (said s) (said t) (spine_refused l)
 
   -- A chain, by its links.
+
+  pub moved_refused : {names : Names} {e : Syntax} {s t : State} {p : Place} → LoweredMoved names e s t p
+      → Records (said_of_moved names e ++ refusals names e) (said s) (said t)
+  moved_refused {names} (lowered.Stays e s t p is l) =
+      records_same _ _ (said s) (said t) (ap (λ (ds : List Diagnostic). ds ++ refusals names e) (moved_unsaid names e is))
+      (expression_refused l)
+  moved_refused {names} (lowered.Moved at w fields s t p is l) =
+      let d : Diagnostic = diagnostic_at row.F29 (type_name w) at.span in
+      records_same _ _ (said s) (said t)
+      (ap (λ (b : Bool). (if b then [] else d ∷ []) ++ refusals names (Node at w fields)) is)
+      (records_then (d ∷ []) (refusals names (Node at w fields)) (said s) (said (recorded s d)) (said t)
+      (records_all (d ∷ []) (said s) _ refl) (expression_refused l))
+
+  pub target_refused : {names : Names} {at : Span} {value : Place} {e : Syntax} {s t : State} {p : Place}
+      → LoweredTarget names at value e s t p → Records (refusals_to names e) (said s) (said t)
+  target_refused {names} {at} {value} (lowered.TargetVariable there name symbol identifier s is mutable f) =
+      records_same _ _ (said s) _
+      (stored_head_refuses names there name symbol false is mutable
+      ∙ append-nil (said_of_local (names.name symbol.0) (label_of names symbol there.span)))
+      (found_value_said names s symbol there.span identifier _ (Some at) f)
+  target_refused {names} (lowered.TargetConstant there name symbol identifier s is constant f) =
+      let first : State = found names s symbol there.span in
+      let d : Diagnostic = diagnostic_at row.F6 (names.name symbol.0) there.span in
+      records_same _ _ (said s) _ (stored_head_refuses names there name symbol true is constant)
+      (records_then _ (d ∷ []) (said s) (said first) _ (found_said names s symbol there.span identifier f)
+      (records_all (d ∷ []) (said first) _ refl))
+  target_refused {names} {at} {value} (lowered.TargetGlobal there name binding s is) =
+      records_none _ (said s) _ (outer_head_refuses names there name binding is) (value_said s (values.StoreGlobal name value) (Some at))
+  target_refused {names} {at} {value} (lowered.TargetMember there w fields parts pieces object key s t is l) =
+      records_same _ _ (said s) _ (member_target is names there ∙ member_head_refuses names there is)
+      (records_behind _ (said s) (said t) _ (value_said t (store_of object key value) (Some at)) (all_refused l))
+  target_refused {names} (lowered.TargetLost there w fields s is) =
+      records_same _ _ (said s) _ (lost_target_refuses names there w fields is)
+      (records_all (refusal (row_of_head w) there.span ∷ []) (said s) _ refl)
+  target_refused {names} {value} (lowered.TargetDefaulted there w fields target default s t u q p is d dt) =
+      let ended : State = default_ended (default_at s there.span value) t q in
+      records_same _ _ (said s) (said u) (defaulted_refuses is names there)
+      (records_then (said_of_moved names default ++ refusals names default) (refusals_to names target) (said s) (said ended) (said u)
+      (records_behind _ (said s) (said t) (said ended) (default_said s t value q there.span) (moved_refused d)) (target_refused dt))
+  target_refused {names} {at} {value}
+      (lowered.TargetPattern there w of_object forced items rest pattern pieces later s t u v is ahead taken are l) =
+      let apart : InstructionValue = destructured variables.Reassign pattern value in
+      records_same _ _ (said s) (said v) (taking_rows is names there items rest forced (ahead_forced ahead))
+      (records_then _ _ (said s) (said t) (said v) (look_refused ahead)
+      (records_then _ _ (said t) (said u) (said v) (taken_refused taken)
+      (records_same _ _ (said u) (said v) (left_taken_are taken)
+      (records_before _ (said u) (said (with_value u apart (Some at))) (said v) (value_said u apart (Some at)) (later_refused l)))))
+
+  pub later_refused : {names : Names} {later : List Later} {s t : State} → LoweredLater names later s t
+      → Records (left_taken names later) (said s) (said t)
+  later_refused (lowered.NoLater s) = records_none [] (said s) (said s) refl refl
+  later_refused {names} (lowered.NextLater value part later s t u p d ds) =
+      records_then (refusals_to names part) (left_taken names later) (said s) (said t) (said u) (target_refused d) (later_refused ds)
 
   pub spine_refused : {names : Names} {below : Bool} {e : Syntax} {s t : State} {p : Place} → LoweredSpine names below e s t p
       → Records (refusals_by names (spine_place below) e) (said s) (said t)
@@ -481,6 +376,57 @@ mutual
       records_then (refusals names e) (refusals_in names (Then next es)) (said s) (said t) (said u) (expression_refused l)
       (last_refused more)
 
+mutual
+  pub pattern_refused : {names : Names} {again : Bool} {k : InstructionKind} {at : Span} {value : Place} {e : Syntax} {s t : State} {p : Place}
+      → LoweredPattern names again k at value e s t p → Records (refusals names e) (said s) (said t)
+  pattern_refused {names} {again} {k} {at} {value} (lowered.BoundName bind name type symbol identifier s annotated is f) =
+      let here : State = met again names s symbol identifier bind.span in
+      records_same _ _ (said s) _ (bind_refuses names bind name type symbol annotated is)
+      (records_behind _ (said s) (said here) _ (value_said here (values.StoreLocal k (variable_at identifier at) value) (Some at))
+      (met_refused again names s symbol bind.span identifier f))
+  pattern_refused {names} {value} (lowered.BoundDefault there pattern default s t u q p d dt) =
+      let ended : State = default_ended (default_at s there.span value) t q in
+      records_then (said_of_moved names default ++ refusals names default) (refusals names pattern) (said s) (said ended) (said u)
+      (records_behind _ (said s) (said t) (said ended) (default_said s t value q there.span) (moved_refused d)) (pattern_refused dt)
+  pattern_refused {names} {k} {at} {value} (lowered.BoundPattern there w of_object items rest pattern pieces later s u v is bound are l) =
+      let apart : InstructionValue = destructured k pattern value in
+      records_same _ _ (said s) (said v) (pattern_rows is names there items rest)
+      (records_then _ _ (said s) (said u) (said v) (bound_refused bound)
+      (records_same _ _ (said u) (said v) (left_rows_are bound)
+      (records_before _ (said u) (said (with_value u apart (Some at))) (said v) (value_said u apart (Some at)) (left_refused l))))
+
+  pub left_refused : {names : Names} {again : Bool} {k : InstructionKind} {later : List Later} {s t : State}
+      → LoweredBound names again k later s t → Records (left_rows names later) (said s) (said t)
+  left_refused (lowered.NothingBound s) = records_none [] (said s) (said s) refl refl
+  left_refused {names} (lowered.NextBound value part later s t u p d ds) =
+      records_then (refusals names part) (left_rows names later) (said s) (said t) (said u) (pattern_refused d) (left_refused ds)
+
+pub params_refused : {names : Names} {es : Pieces} {rest : Syntax} {s t : State} {ps : List Param} → LoweredParams names es rest s t ps
+    → Records (refusals_in names es ++ refusals names rest) (said s) (said t)
+params_refused (lowered.NoParam s) = records_none [] (said s) (said s) refl refl
+params_refused {names} (lowered.RestParam there pattern s t p d) =
+    records_unit (refusals names pattern) (said s) (said t) (pattern_refused d)
+params_refused {names} (lowered.PlainParam there bind name type rest more symbol identifier s t ps annotated is f ds) =
+    let param : Syntax = Node there word.Param (Then (Node bind word.Bind (Then (Said name) (Then type End))) (Then Absent End)) in
+    records_same _ _ (said s) (said t) (append_assoc (refusals names param) (refusals_in names more) (refusals names rest))
+    (records_then (refusals names param) (refusals_in names more ++ refusals names rest) (said s) (said (found names s symbol bind.span))
+    (said t)
+    (records_same _ _ (said s) _ (bind_refuses names bind name type symbol annotated is)
+    (found_said names s symbol bind.span identifier f)) (params_refused ds))
+params_refused {names} (lowered.PatternParam there pattern rest more s t u p ps is d ds) =
+    records_same _ _ (said s) (said u) (append_assoc (refusals names pattern) (refusals_in names more) (refusals names rest))
+    (records_then (refusals names pattern) (refusals_in names more ++ refusals names rest) (said s) (said t) (said u) (pattern_refused d)
+    (params_refused ds))
+params_refused {names} (lowered.DefaultParam there pattern default rest more s t u v q p ps d dt ds) =
+    let x : State = promoted s there.span in
+    let ended : State = default_ended (default_at x there.span (caught s there.span)) t q in
+    let first : List Diagnostic = said_of_moved names default ++ refusals names default in
+    records_same _ _ (said s) (said v) (append_assoc (first ++ refusals names pattern) (refusals_in names more) (refusals names rest))
+    (records_then (first ++ refusals names pattern) (refusals_in names more ++ refusals names rest) (said s) (said u) (said v)
+    (records_then first (refusals names pattern) (said s) (said ended) (said u)
+    (records_behind _ (said s) (said t) (said ended) (default_said x t (caught s there.span) q there.span) (moved_refused d))
+    (pattern_refused dt)) (params_refused ds))
+
 declarators_refused : {names : Names} {at : Span} {k : InstructionKind} {es : Pieces} {s t : State} → LoweredDeclarators names at k es s t
     → Records (refusals_in names es) (said s) (said t)
 declarators_refused (lowered.NoDeclarator s) = records_none [] (said s) (said s) refl refl
@@ -493,6 +439,15 @@ declarators_refused {names} {at} (lowered.NextInitialized there bind name type i
     (records_then (refusals names init) _ (said s) (said t) _ (expression_refused l)
     (records_same _ _ (said t) _ (bind_refuses names bind name type symbol annotated is)
     (found_value_said names t symbol bind.span identifier _ (Some at) f))) (declarators_refused m)
+declarators_refused {names} (lowered.NextTakenApart there pattern init more s t u v p q is present d dp ds) =
+    records_then (refusals names init ++ refusals names pattern) (refusals_in names more) (said s) (said u) (said v)
+    (records_then (refusals names init) (refusals names pattern) (said s) (said t) (said u) (expression_refused d) (pattern_refused dp))
+    (declarators_refused ds)
+declarators_refused {names} {at} (lowered.NextUntaken there pattern more s u v q is dp ds) =
+    let made : State = with_value s (values.Primitive primitives.Undefined) (Some at) in
+    records_then (refusals names pattern) (refusals_in names more) (said s) (said u) (said v)
+    (records_before _ (said s) (said made) (said u) (value_said s (values.Primitive primitives.Undefined) (Some at)) (pattern_refused dp))
+    (declarators_refused ds)
 
 -- The test of a `for` loop.
 test_refused : {names : Names} {at : Span} {e : Syntax} {s t : State} {p : Place} → LoweredTest names at e s t p
@@ -527,6 +482,10 @@ head_refused {names} {value} (lowered.StoredGlobal at name binding s is) =
 head_refused {names} {value} (lowered.StoredMember at w fields parts pieces object key s t is l) =
     records_same _ _ (said s) _ (member_head_refuses names at is)
     (records_behind _ (said s) (said t) _ (value_said t (store_of object key value) (Some at.span)) (all_refused l))
+head_refused {names} (lowered.DeclaredPattern at there kind pattern s t p is d) =
+    records_unit (refusals names pattern ++ []) (said s) (said t) (records_unit (refusals names pattern) (said s) (said t) (pattern_refused d))
+head_refused {names} (lowered.StoredPattern at w fields s t p is d) =
+    records_same _ _ (said s) (said t) (pattern_head_refuses names at w fields is) (target_refused d)
 head_refused {names} (lowered.Lost at w fields s is) =
     records_same _ _ (said s) _ (lost_head_refuses names at w fields is)
     (records_all (refusal (row_of_head w) at.span ∷ []) (said s) _ refl)
@@ -571,11 +530,6 @@ throwing_said s at tried is =
     subst (λ (b : Bool). Records (said_of_throw b at) (said s) (said (throwing s at))) is (throwing_said_by (innermost s.handlers) s at)
 
 -- The test of a case.
-
-pub moved_unsaid : (names : Names) (e : Syntax) → may_move names e ≡ true → said_of_moved names e ≡ []
-moved_unsaid names (Node at w fields) is =
-    ap (λ (b : Bool). if b then [] else diagnostic_at row.F29 (type_name w) at.span ∷ []) is
-moved_unsaid names _ is = refl
 
 case_test_refused : {names : Names} {e : Syntax} {s t : State} {p : Option Place} → LoweredCaseTest names e s t p
     → Records (said_of_moved names e ++ refusals names e) (said s) (said t)

@@ -11,13 +11,16 @@ use Rattle.rl_builder.specs.Builder.{State, recorded, with_temporary}
 use Rattle.rl_builder.specs.Names.{resolved_by}
 use Rattle.rl_hir.proofs.Identifiers.{slice_get-changed_at_other, slice_get-changed_at_same}
 use Rattle.rl_hir.specs.declared.function.Identifier.{Identifier}
+use Rattle.rl_hir.specs.declared.function.Param.{Param}
 use Rattle.rl_hir.specs.Identifiers.{with_span}
 use Rattle.rl_hir.specs.Pairs.{identifier_of}
-use Rattle.rl_lowered.proofs.Carried.{IsCarried, Naming, at_symbol, body_carried, naming, unchanged}
+use Rattle.rl_lowered.proofs.Carrying.{IsCarried, Naming, at_symbol, naming, unchanged}
+use Rattle.rl_lowered.proofs.Carried.{body_carried, params_carried}
 use Rattle.rl_lowered.proofs.Catches.{extends_promoted}
 use Rattle.rl_lowered.proofs.Names.{found_within}
 use Rattle.rl_lowered.proofs.Redeclared.{extends_redeclared}
-use Rattle.rl_lowered.specs.Lowered.{LoweredBody, found_again, promoted, redeclared}
+use Rattle.rl_lowered.specs.Items.{found_again, promoted, redeclared}
+use Rattle.rl_lowered.specs.Lowered.{LoweredBody, LoweredParams}
 use Rattle.rl_lowered.specs.Named.{IsFound, Respans, found}
 use Rattle.rl_names.specs.Names.{Names}
 use Rattle.rl_promises.specs.Fields.{name_at}
@@ -25,7 +28,7 @@ use Rattle.rl_promises.specs.Rebound.{span_behind_body}
 use Rattle.rl_runs.proofs.Moves.{extends_recorded, extends_resolved, extends_temporary}
 use Rattle.rl_runs.proofs.Steps.{get_more}
 use Rattle.rl_runs.specs.Facts.{AreSoundNames, Extends, HasSoundNames}
-use Rattle.rl_syntax.specs.Syntax.{Syntax}
+use Rattle.rl_syntax.specs.Syntax.{Pieces, Syntax}
 
 -- The identifiers of symbols, behind a part.
 
@@ -147,3 +150,7 @@ respans_carried names = record {
 pub body_respans : {names : Names} {b : Syntax} {s t : State} → LoweredBody names b s t
     → Respans (λ symbol before. span_behind_body names symbol b before) s t
 body_respans {names} l = body_carried (respans_carried names) l
+
+pub params_respans : {names : Names} {es : Pieces} {rest : Syntax} {s t : State} {ps : List Param} → LoweredParams names es rest s t ps
+    → Respans unchanged s t
+params_respans {names} l = params_carried (respans_carried names) l

@@ -1,5 +1,5 @@
 -- Lowered expressions have the runs of the source, where nothing of them was refused.
-use Rattle.std.proofs.Common.{◌≡◌, ℕ, ◌++◌, ◌&&◌, Bool, true, false, if◌then◌else◌, is_some, List, [], ◌∷◌, length, map}
+use Rattle.std.proofs.Common.{◌≡◌, ℕ, ◌++◌, ◌&&◌, Bool, true, false, if◌then◌else◌, is_some, List, [], ◌∷◌, length, map, true≢false}
 use Rattle.std.proofs.Common.{codes, Option, Some, refl, sym, ap, ◌∙◌, subst}
 use Rattle.rl_base.specs.Operators.{logical_text, operator_text, update_text}
 use Rattle.rl_base.specs.declared.ids.BlockId.{BlockId}
@@ -18,6 +18,7 @@ use Rattle.rl_frames.proofs.Meant.{and_meant, coalesce_meant, cond_meant, or_mea
 use Rattle.rl_frames.proofs.Sequences.{sequence_runs}
 use Rattle.rl_frames.proofs.Ternaries.{ternary_runs}
 use Rattle.rl_frames.specs.Meanings.{connected}
+use Rattle.rl_hir.specs.declared.instruction.InstructionKind.TheVariants as kinds
 use Rattle.rl_hir.specs.declared.instruction.InstructionValue.TheVariants as values
 use Rattle.rl_hir.specs.declared.instruction.NonLocalBinding.{NonLocalBinding}
 use Rattle.rl_hir.specs.declared.instruction.NonLocalBinding.TheVariants as bindings
@@ -29,12 +30,15 @@ use Rattle.rl_hir.specs.declared.instruction.PrimitiveValue.TheVariants as primi
 use Rattle.rl_hir.specs.declared.instruction.PropertyLiteral.TheVariants as keys
 use Rattle.rl_hir.specs.Instructions.{binding_texts}
 use Rattle.rl_hir.specs.Pieces.{Piece, argument_pieces, gathered, property_pieces, texts}
+use Rattle.rl_lowered.proofs.ApartRuns.{defaulted_whole, lost_whole, pattern_assigned, taking_run}
 use Rattle.rl_lowered.proofs.AssignmentRuns.{assigned_member_runs, behind_runs, combined, combined_runs, compound_member_runs}
 use Rattle.rl_lowered.proofs.AssignmentRuns.{name_compound, name_written, outer_runs, reloaded_runs, variable_runs}
-use Rattle.rl_lowered.proofs.Blocks.{all_blocks, expression_blocks, front_blocks, last_blocks}
+use Rattle.rl_lowered.proofs.Blocks.{all_blocks, expression_blocks, front_blocks, last_blocks, later_blocks, moved_blocks, target_blocks}
+use Rattle.rl_lowered.proofs.BoundSlots.{AreClean}
 use Rattle.rl_lowered.proofs.ChainRuns.{LinkRuns, alone_front, asserted_never, call_hands, call_link, call_means, call_runs, front_action}
 use Rattle.rl_lowered.proofs.ChainRuns.{front_identifiers, front_unlinked, link_front, link_lends, link_means, links_of_all}
 use Rattle.rl_lowered.proofs.ChainRuns.{method_front_runs, property_hands, property_link, property_means, property_runs}
+use Rattle.rl_lowered.proofs.Clean.{assigned_pattern_clean, constant_head_never, moved_never}
 use Rattle.rl_lowered.proofs.Clean.{assigned_clean, assigned_member_clean, branches_clean, cast_clean, compound_clean}
 use Rattle.rl_lowered.proofs.Clean.{compound_member_clean, computed_row_clean, constant_assigned_never, constant_compound_never}
 use Rattle.rl_lowered.proofs.Clean.{constant_update_never, first_none, form_clean, fraction_row_never, method_clean, outer_never}
@@ -43,13 +47,22 @@ use Rattle.rl_lowered.proofs.Clean.{second_none, unknown_row_never, updated_memb
 use Rattle.rl_lowered.proofs.CleanChains.{asserted_clean, below_off, broken_never, call_link_clean, method_front_clean}
 use Rattle.rl_lowered.proofs.CleanChains.{private_link_never, property_link_clean, spine_below, spine_place}
 use Rattle.rl_lowered.proofs.Forms.{event_with, form_acts, form_event, given_values, identifiers_in, key_by, load_acts, object_acts, store_acts}
+use Rattle.rl_lowered.proofs.ItemBlocks.{ahead_stays, taken_stays}
 use Rattle.rl_lowered.proofs.Keys.{HasText, Name, has_text}
-use Rattle.rl_lowered.proofs.Living.{private_compound_never}
-use Rattle.rl_lowered.proofs.Meant.{form_means, member_means, private_member_never}
+use Rattle.rl_lowered.proofs.Meant.{form_means, member_means, private_compound_never, private_member_never}
 use Rattle.rl_lowered.proofs.Plain.{all_shapes, first_value, lowered_plain}
+use Rattle.rl_lowered.proofs.Refusals.{member_whole}
+use Rattle.rl_lowered.proofs.SlotRuns.{NextRun, NoneRun, RunsLater, on_dropped, then_on}
+use Rattle.rl_lowered.proofs.TakenSlots.{taken_slots}
+use Rattle.rl_lowered.proofs.TargetForms.{defaulted_clean, defaulted_means, lost_target_never, member_takes, member_target_clean}
+use Rattle.rl_lowered.proofs.TargetForms.{taking_clean}
+use Rattle.rl_lowered.proofs.TargetMoves.{asked_pattern, pattern_same, variable_pattern}
 use Rattle.rl_lowered.specs.Forms.{IsCast, IsLiteral, IsMember, IsWrapper, MemberKey, load_of, places_in, store_of, type_of, typed}
 use Rattle.rl_lowered.specs.Forms.{Alone, Front, call_of, handed_on, is_property, tested_front}
 use Rattle.rl_lowered.specs.Forms.{As, Boolean, Computed, Fixed, Indexed, Null, Number, Numbered, Parenthesized, Static, String}
+use Rattle.rl_lowered.specs.Items.{Later, variable_at}
+use Rattle.rl_lowered.specs.Lowered.{AssignedPattern, LoweredLater, LoweredMoved, LoweredTarget, Moved, NextLater, NoLater, Stays, TargetConstant}
+use Rattle.rl_lowered.specs.Lowered.{TargetDefaulted, TargetGlobal, TargetLost, TargetMember, TargetPattern, TargetVariable}
 use Rattle.rl_lowered.specs.Lowered.{Asked, Cast, Conditional, EarlierPart, Global, LastPart, Literal, Logical, Lowered, LoweredLast}
 use Rattle.rl_lowered.specs.Lowered.{LoweredParts, Method, NextComputed, NextFraction, NextHole, NextPart, NextProperty, NextSpread}
 use Rattle.rl_lowered.specs.Lowered.{NextUnknown, NoPart, Object, Private, Refused, RefusedBefore, RefusedBehind, RefusedGlobal, Same}
@@ -64,10 +77,11 @@ use Rattle.rl_machine.specs.Acts.{Asks, act, gives}
 use Rattle.rl_machine.specs.declared.trace.Answer.{Answer}
 use Rattle.rl_machine.specs.declared.trace.Event.{Event}
 use Rattle.rl_machine.specs.declared.trace.Value.{Value}
-use Rattle.rl_machine.specs.Traces.{Store, ValueCont, World}
+use Rattle.rl_machine.specs.Traces.{Store, ValueCont, World, fired, set_open}
 use Rattle.rl_machine.specs.declared.trace.Value.TheVariants as value
-use Rattle.rl_model.specs.Actions.{Action, Ways, ◌>>=◌, ask, chained, give, no_meaning}
-use Rattle.rl_model.specs.Events.{event, global, load}
+use Rattle.rl_model.specs.Actions.{Action, Ways, ◌>>=◌, ◌>>◌, ask, chained, done, give, no_meaning}
+use Rattle.rl_model.specs.Events.{event, global, load, store_global, store_in}
+use Rattle.rl_model.specs.Expressions.{assign_to, write}
 use Rattle.rl_model.specs.Expressions.{call_kind, callee, eval, eval_last, first_piece, one_value, place, property_key, read}
 use Rattle.rl_model.specs.Expressions.{update_name, update_property, values as values_in}
 use Rattle.rl_model.specs.Scene.{Scene}
@@ -75,10 +89,15 @@ use Rattle.rl_model.specs.Shapes.{first_character, is_computed, key_text, lends_
 use Rattle.rl_names.specs.Names.{Names}
 use Rattle.rl_names.specs.declared.names.Meaning.{Meaning}
 use Rattle.rl_names.specs.declared.names.Meaning.TheVariants.{Local, Outer}
-use Rattle.rl_optional_frames.proofs.Taken.{links_same}
-use Rattle.rl_optional_frames.specs.Frames.{link_at, link_objected}
+use Rattle.rl_optional_frames.proofs.DefaultBlocks.{default_blocks}
+use Rattle.rl_optional_frames.proofs.DefaultRuns.{default_runs}
+use Rattle.rl_optional_frames.proofs.Taken.{links_same, pattern_runs}
+use Rattle.rl_optional_frames.specs.Frames.{default_at, default_ended, link_at, link_objected}
+use Rattle.rl_optional_frames.specs.Meanings.{defaulted}
 use Rattle.rl_promises.specs.Chains.{Below, Spine, Top, below_link}
-use Rattle.rl_promises.specs.Rows.{refusals, refusals_by, refusals_in}
+use Rattle.rl_promises.specs.Moved.{said_of_moved}
+use Rattle.rl_promises.specs.Patterns.{is_pattern}
+use Rattle.rl_promises.specs.Rows.{refusals, refusals_by, refusals_in, refusals_to}
 use Rattle.rl_runs.proofs.Expressions.{all_asked, literal_runs, means_same, next_runs, none_run}
 use Rattle.rl_runs.proofs.Links.{link_plain, links_one}
 use Rattle.rl_runs.proofs.Moves.{extends_refl, extends_resolved, extends_then, extends_value}
@@ -87,7 +106,7 @@ use Rattle.rl_runs.proofs.Properties.{method_runs, property_postfix_runs, proper
 use Rattle.rl_runs.proofs.Types.{cast_runs, variable_cast_runs}
 use Rattle.rl_runs.proofs.Variables.{postfix_runs, prefix_runs, read_runs}
 use Rattle.rl_runs.specs.Facts.{Extends}
-use Rattle.rl_runs.specs.Simulation.{RunsAll, RunsExpression, RunsLinks}
+use Rattle.rl_runs.specs.Simulation.{RunsAll, RunsExpression, RunsLinks, RunsOn, RunsPattern}
 use Rattle.rl_syntax.specs.declared.numbered.At.{At}
 use Rattle.rl_syntax.specs.declared.word.Word.{Word}
 use Rattle.rl_syntax.specs.declared.word.Word.TheVariants as word
@@ -178,6 +197,14 @@ logical_means : (scene : Scene) (at : At) (operator : LogicalOperator) (left rig
 logical_means scene at logical.And left right ways k source answers = sym (and_meant scene at left right ways k source answers)
 logical_means scene at logical.Or left right ways k source answers = sym (or_meant scene at left right ways k source answers)
 logical_means scene at logical.Coalesce left right ways k source answers = sym (coalesce_meant scene at left right ways k source answers)
+
+-- A name takes a value.
+name_taken : (scene : Scene) (names : Names) (at : At) (name : List ℕ) (m : Meaning) → scene.names ≡ names
+    → names.meaning at.reference.0 name ≡ m → (v : Value)
+    → (write scene m name v >>= (λ w. done)) ≡ assign_to scene (Node at word.Id (Then (Said name) End)) v
+name_taken scene names at name m same is v =
+    sym (ap (λ (n : Names). write scene (n.meaning at.reference.0 name) name v >>= (λ w. done)) same
+    ∙ ap (λ (x : Meaning). write scene x name v >>= (λ w. done)) is)
 
 -- Updates of properties, and calls of methods.
 
@@ -352,7 +379,7 @@ mutual
       (name_written scene names inner name (Local symbol) same is (eval scene right)))
       (variable_runs scene names s t (eval scene right) symbol name inner.span identifier p (Some inner.span)
       (expression_blocks by).extends f
-      (expression_runs by (assigned_clean names at (Node inner word.Id (Then (Said name) End)) right none).0 scene same ported))
+      (expression_runs by (assigned_clean names at (Node inner word.Id (Then (Said name) End)) right refl none).0 scene same ported))
   expression_runs {names} (AssignedConstant at inner name right symbol identifier s t p is constant by f) none scene same ported =
       absurd (constant_assigned_never names at inner name right symbol is constant none)
   expression_runs {names} (AssignedGlobal at inner name right binding s t p is by) none scene same ported =
@@ -360,17 +387,25 @@ mutual
       (λ ways k source answers. ap (λ (a : Action Value). a ways k source answers)
       (name_written scene names inner name (Outer binding) same is (eval scene right)))
       (outer_runs scene s t (eval scene right) binding name p (Some inner.span) (expression_blocks by).extends
-      (expression_runs by (assigned_clean names at (Node inner word.Id (Then (Said name) End)) right none).0 scene same ported))
+      (expression_runs by (assigned_clean names at (Node inner word.Id (Then (Said name) End)) right refl none).0 scene same ported))
   expression_runs {names} (AssignedMember at inner w fields parts pieces object key right s t u p is by all) none scene same ported =
       let clean = assigned_member_clean is names at inner right none in
       assigned_member_runs is scene at inner right s t u p ported all clean.1 (expression_blocks by).extends (all_blocks all).extends
       (expression_runs by clean.0 scene same ported) (all_runs all clean.1 scene same ported)
   expression_runs {names} (AssignedPrivate at inner object name right s t u p q by more) none scene same ported =
       absurd (private_assigned_never names at inner object name right none)
+  expression_runs {names} (AssignedPattern at inner w fields right s t u p q is by d) none scene same ported =
+      let target : Syntax = Node inner w fields in
+      let clean = assigned_pattern_clean names at target right is none in
+      means_same scene.world s u q.identifier.0
+      (λ ways k source answers. ap (λ (a : Action Value). a ways k source answers) (pattern_assigned scene at inner w fields right is))
+      (then_on scene.world s t u (eval scene right) (λ v. assign_to scene target v >> give v) p.identifier.0 q.identifier.0
+      (expression_blocks by).extends (target_blocks d).extends (expression_runs by clean.0 scene same ported)
+      (on_target_runs d is clean.1 scene same ported))
   expression_runs {names} (CompoundVariable at inner name operator applied right symbol identifier s t u q p is mutable applies by more f)
       none scene same ported =
       let target : Syntax = Node inner word.Id (Then (Said name) End) in
-      let clean = compound_clean names at target right operator applied applies none in
+      let clean = compound_clean names at target right operator applied applies refl none in
       let g : Extends s u = extends_then (expression_blocks by).extends (expression_blocks more).extends in
       means_same scene.world s _ _
       (λ ways k source answers. ap (λ (a : Action Value). a ways k source answers)
@@ -385,7 +420,7 @@ mutual
   expression_runs {names} (CompoundGlobal at inner name operator applied right binding s t u q p is applies by more) none scene same
       ported =
       let target : Syntax = Node inner word.Id (Then (Said name) End) in
-      let clean = compound_clean names at target right operator applied applies none in
+      let clean = compound_clean names at target right operator applied applies refl none in
       let g : Extends s u = extends_then (expression_blocks by).extends (expression_blocks more).extends in
       means_same scene.world s _ _
       (λ ways k source answers. ap (λ (a : Action Value). a ways k source answers)
@@ -459,6 +494,90 @@ mutual
       (last_runs by (first_none (refusals_in names (Then e es)) [] none) scene same ported)
   expression_runs {names} (Chain at e s t p by) none scene same ported =
       spine_runs by (first_none (refusals_by names Top e) [] none) scene same ported
+
+  pub moved_runs : {names : Names} {e : Syntax} {s t : State} {p : Place} → LoweredMoved names e s t p → said_of_moved names e ≡ []
+      → refusals names e ≡ [] → (scene : Scene) → scene.names ≡ names → scene.ported ≡ true
+      → RunsExpression scene.world (eval scene e) s t p.identifier.0
+  moved_runs (Stays e s t p is d) unsaid none scene same ported = expression_runs d none scene same ported
+  moved_runs {names} (Moved at w fields s t p is d) unsaid none scene same ported = absurd (moved_never names at w fields is unsaid)
+
+  pub target_runs : {names : Names} {at : Span} {value : Place} {e : Syntax} {s t : State} {p : Place}
+      → LoweredTarget names at value e s t p → refusals_to names e ≡ [] → (scene : Scene) → scene.names ≡ names → scene.ported ≡ true
+      → RunsPattern scene.world (assign_to scene e) s t value.identifier.0
+  target_runs {names} {at} {value} (TargetVariable inner name symbol identifier s is mutable f) none scene same ported =
+      pattern_same scene.world s _ value.identifier.0
+      (λ v ways k source answers. ap (λ (d : Action (Unit {0})). d ways (λ end. k) source answers)
+      (name_taken scene names inner name (Local symbol) same is v))
+      (variable_pattern scene.world s (found names s symbol inner.span) symbol.0 kinds.Reassign (variable_at identifier at) value (Some at)
+      (extends_resolved s (names.name symbol.0) symbol.0 (Some inner.span) f.agree) refl f.bound)
+  target_runs {names} (TargetConstant inner name symbol identifier s is constant f) none scene same ported =
+      absurd (constant_head_never names inner name symbol is constant none)
+  target_runs {names} {at} {value} (TargetGlobal inner name binding s is) none scene same ported =
+      pattern_same scene.world s _ value.identifier.0
+      (λ v ways k source answers. ap (λ (d : Action (Unit {0})). d ways (λ end. k) source answers)
+      (name_taken scene names inner name (Outer binding) same is v))
+      (asked_pattern scene.world s s (λ ways k. k []) [] (values.StoreGlobal name value) (Some at) value.identifier.0
+      (λ vs v. store_global name v) (extends_refl s) (λ store. refl) (none_run scene.world s))
+  target_runs {names} {at} {value} (TargetMember inner w fields parts pieces object key s t is all) none scene same ported =
+      let clean = member_target_clean is names inner none in
+      pattern_same scene.world s _ value.identifier.0
+      (λ v ways k source answers.
+      member_means is all clean scene inner ways
+      (λ p source answers. fired (set_open scene.world.opens) (store_in p.0 p.1 v) source answers (λ a. k) ways.throws) source answers
+      ∙ sym (ap (λ (d : Action (Unit {0})). d ways (λ end. k) source answers) (member_takes is scene inner v)))
+      (asked_pattern scene.world s t (values_in scene parts) (identifiers_in pieces) (store_of object key value) (Some at)
+      value.identifier.0 (λ vs v. store_in (first_piece vs) (key_by key vs) v) (all_blocks all).extends
+      (λ store. store_acts is (length t.env.identifiers) value store) (all_runs all clean scene same ported))
+  target_runs {names} (TargetLost inner w fields s is) none scene same ported = absurd (lost_target_never names inner w fields is none)
+  target_runs {names} {at} {value} (TargetDefaulted inner w fields target default s t u q p is d dt) none scene same ported =
+      let clean = defaulted_clean is names inner none in
+      pattern_same scene.world s u value.identifier.0
+      (λ v ways k source answers. defaulted_means is scene inner v ways k source answers)
+      (pattern_runs scene.world s (default_ended (default_at s inner.span value) t q) u (defaulted scene.world (eval scene default))
+      (assign_to scene target) value.identifier.0 (length s.env.identifiers)
+      (default_blocks s t q value inner.span (moved_blocks d)).extends (target_blocks dt).extends
+      (default_runs s t q value inner.span (moved_blocks d).extends scene.world (eval scene default)
+      (moved_runs d clean.0 clean.1 scene same ported))
+      (target_runs dt clean.2 scene same ported))
+  target_runs {names} {at} {value}
+      (TargetPattern inner w of_object forced items rest pattern pieces later s t u v is ahead taken are l) none scene same ported =
+      let clean = taking_clean is ahead inner none in
+      let r = taken_slots taken clean.ahead clean.behind clean.last clean.plain scene same in
+      on_dropped scene.world s v (assign_to scene (Node inner w (Then (Listed items) (Then rest End)))) value.identifier.0
+      (length u.env.identifiers)
+      (taking_run scene inner v kinds.Reassign pattern value at is (ahead_stays ahead) (taken_stays taken) r clean.plain are
+      (later_blocks l).extends
+      (later_runs l (subst (λ (n : Names). AreClean (refusals_to n) later) same r.clean) scene same ported))
+
+  -- A pattern takes the value and gives it.
+  on_target_runs : {names : Names} {at : Span} {value : Place} {e : Syntax} {s t : State} {p : Place}
+      → LoweredTarget names at value e s t p → is_pattern e ≡ true → refusals_to names e ≡ [] → (scene : Scene) → scene.names ≡ names
+      → scene.ported ≡ true
+      → RunsOn scene.world (λ v. assign_to scene e v >> give v) s t value.identifier.0 p.identifier.0
+  on_target_runs (TargetVariable inner name symbol identifier s is mutable f) takes none scene same ported =
+      absurd (true≢false (sym takes))
+  on_target_runs (TargetConstant inner name symbol identifier s is constant f) takes none scene same ported =
+      absurd (true≢false (sym takes))
+  on_target_runs (TargetGlobal inner name binding s is) takes none scene same ported = absurd (true≢false (sym takes))
+  on_target_runs (TargetMember inner w fields parts pieces object key s t is all) takes none scene same ported =
+      absurd (true≢false (sym takes ∙ member_whole is inner))
+  on_target_runs (TargetLost inner w fields s is) takes none scene same ported = absurd (lost_whole inner w fields is takes)
+  on_target_runs (TargetDefaulted inner w fields target default s t u q p is d dt) takes none scene same ported =
+      absurd (defaulted_whole is inner takes)
+  on_target_runs {names} {at} {value}
+      (TargetPattern inner w of_object forced items rest pattern pieces later s t u v is ahead taken are l) takes none scene same ported =
+      let clean = taking_clean is ahead inner none in
+      let r = taken_slots taken clean.ahead clean.behind clean.last clean.plain scene same in
+      taking_run scene inner v kinds.Reassign pattern value at is (ahead_stays ahead) (taken_stays taken) r clean.plain are
+      (later_blocks l).extends
+      (later_runs l (subst (λ (n : Names). AreClean (refusals_to n) later) same r.clean) scene same ported)
+
+  pub later_runs : {names : Names} {later : List Later} {s t : State} → LoweredLater names later s t → AreClean (refusals_to names) later
+      → (scene : Scene) → scene.names ≡ names → scene.ported ≡ true → RunsLater scene.world (assign_to scene) later s t
+  later_runs (NoLater s) clean scene same ported = NoneRun s
+  later_runs (NextLater value part later s t u p d ds) clean scene same ported =
+      NextRun (record { value = value; part = part }) later s t u (target_blocks d).extends (later_blocks ds).extends
+      (target_runs d clean.0 scene same ported) (later_runs ds clean.1 scene same ported)
 
   pub spine_runs : {names : Names} {below : Bool} {e : Syntax} {s t : State} {p : Place} → LoweredSpine names below e s t p
       → refusals_by names (spine_place below) e ≡ [] → (scene : Scene) → scene.names ≡ names → scene.ported ≡ true

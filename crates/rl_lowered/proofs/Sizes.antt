@@ -1,5 +1,5 @@
 -- The numbers of blocks, types, identifiers and instructions that the lowering of a part adds, together: a bound by the part's nodes.
-use Rattle.std.proofs.Common.{ℕ, ◌+◌, ◌≤◌, Bool, true, false, Option, Some, None, List, [], ◌∷◌, length-append, arith}
+use Rattle.std.proofs.Common.{ℕ, ◌+◌, ◌≤◌, Bool, true, false, Option, Some, None, List, ◌*◌, length, arith}
 use Rattle.rl_base.specs.declared.ids.BlockId.{BlockId}
 use Rattle.rl_base.specs.declared.ids.SymbolId.{SymbolId}
 use Rattle.rl_base.specs.declared.operator.UpdateOperator.{UpdateOperator}
@@ -12,7 +12,6 @@ use Rattle.rl_base.specs.declared.variable_kind.VariableKind.{VariableKind}
 use Rattle.rl_base.specs.declared.variable_kind.VariableKind.TheVariants as kinds
 use Rattle.rl_base.specs.Diagnostics.{diagnostic_at}
 use Rattle.rl_builder.specs.Builder.{State, recorded}
-use Rattle.rl_builder.specs.Names.{fresh_identifier, new_span, resolved_by}
 use Rattle.rl_builder.specs.Temporaries.{temporary, with_value}
 use Rattle.rl_frames.proofs.FrameSizes.{if_alternate_size, if_begun_size, if_consequent_size, logical_begun_size, logical_ended_size}
 use Rattle.rl_frames.proofs.FrameSizes.{logical_righted_size, sequence_begun_size, sequence_ended_size, ternary_alternated_size}
@@ -20,6 +19,7 @@ use Rattle.rl_frames.proofs.FrameSizes.{ternary_begun_size, ternary_consequent_s
 use Rattle.rl_frames.proofs.RoundSizes.{forin_size, forof_size}
 use Rattle.rl_frames.specs.Frames.{IfParts, LogicalParts, TernaryParts, if_after_consequent, if_at, logical_after, logical_at, sequence_at}
 use Rattle.rl_frames.specs.Frames.{ternary_at, ternary_parted}
+use Rattle.rl_hir.specs.declared.function.Param.{Param}
 use Rattle.rl_hir.specs.declared.instruction.InstructionKind.{InstructionKind}
 use Rattle.rl_hir.specs.declared.instruction.InstructionKind.TheVariants as variables
 use Rattle.rl_hir.specs.declared.instruction.InstructionValue.{InstructionValue}
@@ -27,46 +27,35 @@ use Rattle.rl_hir.specs.declared.instruction.InstructionValue.TheVariants as val
 use Rattle.rl_hir.specs.declared.instruction.Place.{Place}
 use Rattle.rl_hir.specs.declared.instruction.PrimitiveValue.TheVariants as primitives
 use Rattle.rl_hir.specs.declared.terminal.Case.{Case}
-use Rattle.rl_hir.specs.Pairs.{identifier_of}
 use Rattle.rl_hir.specs.Pieces.{Piece}
 use Rattle.rl_lowered.proofs.Catches.{size_promoted, size_throwing, stores_caught}
+use Rattle.rl_lowered.proofs.ItemSizes.{ahead_size, bound_size, met_size, taken_size}
+use Rattle.rl_lowered.proofs.LookSizes.{found_size}
 use Rattle.rl_lowered.proofs.Redeclared.{size_redeclared}
+use Rattle.rl_lowered.specs.Forms.{IsDefaulted}
 use Rattle.rl_lowered.specs.Forms.{Front, IsCast, IsForm, IsInside, IsLinkKey, IsMember, IsPrivate, IsRefusing, IsWrapper, MemberKey}
 use Rattle.rl_lowered.specs.Forms.{call_of, load_of, store_of, tested_front, type_of, typed}
 use Rattle.rl_lowered.specs.Forms as forms
+use Rattle.rl_lowered.specs.Items.{Later, caught, destructured, found_again, met, promoted, variable_at}
 use Rattle.rl_lowered.specs.Lowered.{Lowered, LoweredBody, LoweredCaseTest, LoweredCases, LoweredDeclarators, LoweredHead, LoweredInit}
 use Rattle.rl_lowered.specs.Lowered.{LoweredFront, LoweredLink, LoweredSpine, private_met}
 use Rattle.rl_lowered.specs.Lowered.{LoweredLast, LoweredLoop, LoweredParts, LoweredStatement, LoweredStatements, LoweredTest, binary_of}
-use Rattle.rl_lowered.specs.Lowered.{assigned_to, catch_begun, caught, declaring, found_again, member_computed, member_loaded, member_one}
-use Rattle.rl_lowered.specs.Lowered.{member_stored, member_updated, name_computed, name_stored, promoted, update_of, value_span}
-use Rattle.rl_lowered.specs.Lowered.{variable_at}
+use Rattle.rl_lowered.specs.Lowered.{assigned_to, catch_begun, declaring, member_computed, member_loaded, member_one}
+use Rattle.rl_lowered.specs.Lowered.{member_stored, member_updated, name_computed, name_stored, update_of, value_span}
+use Rattle.rl_lowered.specs.Lowered.{LoweredBound, LoweredLater, LoweredMoved, LoweredParams, LoweredPattern, LoweredTarget}
 use Rattle.rl_lowered.specs.Lowered as lowered
 use Rattle.rl_lowered.specs.Named.{found}
-use Rattle.rl_lowered.specs.Promised.{share}
+use Rattle.rl_lowered.specs.Promised.{nodes_left, share}
 use Rattle.rl_model.specs.Actions.{Label}
 use Rattle.rl_names.specs.Names.{Names}
-use Rattle.rl_optional_frames.proofs.Sizes.{inner_link_size, outer_link_size}
+use Rattle.rl_optional_frames.proofs.Sizes.{default_size, inner_link_size, outer_link_size}
 use Rattle.rl_optional_frames.specs.Frames.{link_after, link_at, link_ended, link_objected}
 use Rattle.rl_optional_frames.specs.Parts.{link_opened}
 use Rattle.rl_promises.specs.Rows.{refusal}
-use Rattle.rl_runs.proofs.Sizes.{size_value}
+use Rattle.rl_runs.proofs.Sizes.{size_temporary, size_value}
 use Rattle.rl_runs.specs.Blocks.{size_of}
 use Rattle.rl_syntax.specs.declared.word.Word.{Word}
 use Rattle.rl_syntax.specs.Syntax.{Pieces, Syntax, nodes, nodes_of, span_of}
-use Rattle.rl_used_names.specs.Choosing.{chosen}
-
--- A look-up makes an identifier of a type of its own, or nothing.
-
-by_size : (known : Option ℕ) (s : State) (name : List ℕ) (symbol : ℕ) (given : Option Span)
-    → size_of (resolved_by known s name symbol given) ≤ size_of s + 2
-by_size None s name symbol given =
-    let one = length-append s.env.identifiers
-    (fresh_identifier (chosen s.used_names symbol name) (new_span s symbol given) s.env.next_type ∷ []) in
-    omega (arith, one)
-by_size (Some known) s name symbol given = omega arith
-
-pub found_size : (names : Names) (s : State) (symbol : SymbolId) (at : Span) → size_of (found names s symbol at) ≤ size_of s + 2
-found_size names s symbol at = by_size (identifier_of s.bindings symbol.0) s (names.name symbol.0) symbol.0 (Some at)
 
 typed_size : (s : State) (k : TypeKind) → size_of (typed s k) ≤ size_of s + 1
 typed_size s types.Array = omega arith
@@ -172,6 +161,11 @@ linked_size None s s2 s4 object value span optional m k first second =
 linked_size (Some given) s s2 s4 object value span optional m k first second =
     let less = inner_link_size s s2 s4 object value span optional given m k first second in omega (arith, less)
 
+defaulted_nodes : {w : Word} {fields : Pieces} {target default : Syntax} → IsDefaulted w fields target default
+    → nodes target + nodes default ≤ nodes_of fields
+defaulted_nodes (forms.DefaultTarget whole) = omega arith
+defaulted_nodes (forms.DefaultName whole is) = omega arith
+
 -- A value behind some parts.
 made_size : (s u : State) (v : InstructionValue) (span : Span) (m : ℕ) → size_of u ≤ size_of s + m
     → size_of (with_value u v (Some span)) ≤ size_of s + (m + 4)
@@ -220,6 +214,7 @@ mutual
         expression_size inside,
         size_value (recorded u (refusal row.F5 at.span)) (values.Primitive primitives.Undefined) (Some at.span),
       )
+  expression_size (lowered.AssignedPattern at there w fields right s t u p q is l d) = omega (arith, expression_size l, target_size d)
   expression_size {names}
       (lowered.CompoundVariable at there name operator applied right symbol identifier s t u q p is mutable applies l m f) =
       let computed : State = name_computed u applied q p at.span in
@@ -299,6 +294,50 @@ mutual
       omega (arith, last_size l, sequence_begun_size s at.span, sequence_ended_size (sequence_at s at.span) s2 p at.span)
   expression_size (lowered.Chain at e s t p l) = omega (arith, spine_size l)
 
+  pub moved_size : {names : Names} {e : Syntax} {s t : State} {p : Place} → LoweredMoved names e s t p
+      → size_of t ≤ size_of s + share (nodes e)
+  moved_size (lowered.Stays e s t p is d) = expression_size d
+  moved_size (lowered.Moved at w fields s t p is d) = omega (arith, expression_size d)
+
+  -- A target leaves some of its share, for the temporary that it takes its piece from.
+  pub target_size : {names : Names} {at : Span} {value : Place} {e : Syntax} {s t : State} {p : Place}
+      → LoweredTarget names at value e s t p → size_of t + 40 ≤ size_of s + share (nodes e)
+  target_size {names} {at} {value} (lowered.TargetVariable there name symbol identifier s is mutable f) =
+      omega (
+        arith,
+        found_size names s symbol there.span,
+        size_value (found names s symbol there.span) (assigned_to identifier at value)
+            (Some at),
+      )
+  target_size {names} (lowered.TargetConstant there name symbol identifier s is constant f) =
+      omega (arith, found_size names s symbol there.span)
+  target_size {at} {value} (lowered.TargetGlobal there name binding s is) =
+      omega (arith, size_value s (values.StoreGlobal name value) (Some at))
+  target_size {at} {value} (lowered.TargetMember there w fields parts pieces object key s t is l) =
+      omega (arith, member_nodes is, all_size l, size_value t (store_of object key value) (Some at))
+  target_size (lowered.TargetLost there w fields s is) = omega arith
+  target_size {value} (lowered.TargetDefaulted there w fields target default s t u q p is d dt) =
+      omega (
+        arith,
+        defaulted_nodes is,
+        default_size s t value q there.span (share (nodes default)) (moved_size d),
+        target_size dt,
+      )
+  target_size {at} {value}
+      (lowered.TargetPattern there w of_object forced items rest pattern pieces later s t u v is ahead taken are l) =
+      omega (
+        arith,
+        ahead_size ahead,
+        taken_size taken,
+        size_value u (destructured variables.Reassign pattern value) (Some at),
+        later_size l,
+      )
+
+  pub later_size : {names : Names} {later : List Later} {s t : State} → LoweredLater names later s t
+      → size_of t + 40 * length later ≤ size_of s + 64 * nodes_left later
+  later_size (lowered.NoLater s) = omega arith
+  later_size (lowered.NextLater value part later s t u p d ds) = omega (arith, target_size d, later_size ds)
+
   pub spine_size : {names : Names} {below : Bool} {e : Syntax} {s t : State} {p : Place} → LoweredSpine names below e s t p
       → size_of t ≤ size_of s + share (nodes e)
   spine_size (lowered.Outermost e s t front p l) = link_size l
@@ -353,6 +392,44 @@ mutual
   last_size (lowered.LastPart e s t p l) = omega (arith, expression_size l)
   last_size (lowered.EarlierPart e next es s t u p q l more) = omega (arith, expression_size l, last_size more)
 
+mutual
+  pub pattern_size : {names : Names} {again : Bool} {k : InstructionKind} {at : Span} {value : Place} {e : Syntax} {s t : State} {p : Place}
+      → LoweredPattern names again k at value e s t p → size_of t + 40 ≤ size_of s + share (nodes e)
+  pattern_size {names} {again} {k} {at} {value} (lowered.BoundName bind name type symbol identifier s annotated is f) =
+      let here : State = met again names s symbol identifier bind.span in
+      omega (
+        arith,
+        met_size again names s symbol identifier bind.span,
+        size_value here (values.StoreLocal k (variable_at identifier at) value) (Some at),
+      )
+  pattern_size {value} (lowered.BoundDefault there pattern default s t u q p d dt) =
+      omega (arith, default_size s t value q there.span (share (nodes default)) (moved_size d), pattern_size dt)
+  pattern_size {k} {at} {value} (lowered.BoundPattern there w of_object items rest pattern pieces later s u v is bound are l) =
+      omega (arith, bound_size bound, size_value u (destructured k pattern value) (Some at), left_size l)
+
+  pub left_size : {names : Names} {again : Bool} {k : InstructionKind} {later : List Later} {s t : State}
+      → LoweredBound names again k later s t → size_of t + 40 * length later ≤ size_of s + 64 * nodes_left later
+  left_size (lowered.NothingBound s) = omega arith
+  left_size (lowered.NextBound value part later s t u p d ds) = omega (arith, pattern_size d, left_size ds)
+
+pub params_size : {names : Names} {es : Pieces} {rest : Syntax} {s t : State} {ps : List Param}
+    → LoweredParams names es rest s t ps → size_of t ≤ size_of s + share (nodes_of es + nodes rest)
+params_size (lowered.NoParam s) = omega arith
+params_size (lowered.RestParam there pattern s t p d) = omega (arith, size_temporary s (Some there.span), pattern_size d)
+params_size {names} (lowered.PlainParam there bind name type rest more symbol identifier s t ps annotated is f ds) =
+    omega (arith, found_size names s symbol bind.span, params_size ds)
+params_size (lowered.PatternParam there pattern rest more s t u p ps is d ds) =
+    omega (arith, size_promoted s there.span, pattern_size d, params_size ds)
+params_size (lowered.DefaultParam there pattern default rest more s t u v q p ps d dt ds) =
+    let x : State = promoted s there.span in
+    omega (
+      arith,
+      size_promoted s there.span,
+      default_size x t (caught s there.span) q there.span (share (nodes default)) (moved_size d),
+      pattern_size dt,
+      params_size ds,
+    )
+
 declarators_size : {names : Names} {at : Span} {k : InstructionKind} {es : Pieces} {s t : State} → LoweredDeclarators names at k es s t
     → size_of t ≤ size_of s + share (nodes_of es)
 declarators_size (lowered.NoDeclarator s) = omega arith
@@ -373,6 +450,10 @@ declarators_size {names} {at} {k} (lowered.NextInitialized there bind name type 
       size_value (found names t symbol bind.span) (values.StoreLocal k place p) (Some at),
       declarators_size m,
     )
+declarators_size (lowered.NextTakenApart there pattern init more s t u v p q is present d dp ds) =
+    omega (arith, expression_size d, pattern_size dp, declarators_size ds)
+declarators_size {at} (lowered.NextUntaken there pattern more s u v q is dp ds) =
+    omega (arith, size_value s (values.Primitive primitives.Undefined) (Some at), pattern_size dp, declarators_size ds)
 
 pub test_size : {names : Names} {at : Span} {e : Syntax} {s t : State} {p : Place} → LoweredTest names at e s t p
     → size_of t ≤ size_of s + share (nodes e) + 4
@@ -406,6 +487,8 @@ head_size {value} (lowered.StoredGlobal at name binding s is) =
     omega (arith, size_value s (values.StoreGlobal name value) (Some at.span))
 head_size {value} (lowered.StoredMember at w fields parts pieces object key s t is l) =
     omega (arith, member_nodes is, all_size l, size_value t (store_of object key value) (Some at.span))
+head_size (lowered.DeclaredPattern at there kind pattern s t p is d) = omega (arith, pattern_size d)
+head_size (lowered.StoredPattern at w fields s t p is d) = omega (arith, target_size d)
 head_size (lowered.Lost at w fields s is) = omega arith
 
 mutual

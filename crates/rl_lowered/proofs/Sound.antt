@@ -1,8 +1,10 @@
 -- Lowering an expression keeps places known and parts writable, and its value is in a place that was made.
 use Rattle.std.proofs.Common.{◌≡◌, ℕ, ◌<◌, ◌&&◌, Bool, true, false, List, [], ◌∷◌, length, map, All, Option, Some, None, codes, refl}
 use Rattle.std.proofs.Common.{sym, subst, arith}
-use Rattle.std.proofs.lemmas.List.Elements.{All-cons, All-head, All-nil, All-weaker}
+use Rattle.std.proofs.lemmas.List.Elements.{All-cons, All-head, All-nil, All-tail, All-weaker}
+use Rattle.rl_base.specs.Diagnostics.{diagnostic_at}
 use Rattle.rl_base.specs.Operators.{assignment_text, logical_text, update_text}
+use Rattle.rl_base.specs.declared.diagnostic.Diagnostic.{Diagnostic}
 use Rattle.rl_base.specs.declared.ids.BlockId.{BlockId}
 use Rattle.rl_base.specs.declared.ids.SymbolId.{SymbolId}
 use Rattle.rl_base.specs.declared.operator.LogicalOperator.{LogicalOperator}
@@ -19,6 +21,7 @@ use Rattle.rl_frames.specs.Parts.{logical_begun, logical_place, sequence_begun, 
 use Rattle.rl_hir.specs.Instructions.{binding_texts}
 use Rattle.rl_hir.specs.Listing as listing
 use Rattle.rl_hir.specs.Pieces.{Piece, Says, argument_pieces, gathered, operands}
+use Rattle.rl_hir.specs.declared.instruction.InstructionKind.TheVariants as kinds
 use Rattle.rl_hir.specs.declared.instruction.InstructionValue.{InstructionValue}
 use Rattle.rl_hir.specs.declared.instruction.InstructionValue.TheVariants as values
 use Rattle.rl_hir.specs.declared.instruction.NonLocalBinding.{NonLocalBinding}
@@ -29,9 +32,11 @@ use Rattle.rl_model.specs.WellFormed.{AreKnown, operand_places, value_places}
 use Rattle.rl_names.specs.Locals.{HasTexts}
 use Rattle.rl_names.specs.Names.{Names}
 use Rattle.rl_names.specs.declared.names.Meaning.TheVariants.{Outer}
-use Rattle.rl_optional_frames.specs.Frames.{link_at, link_objected}
+use Rattle.rl_optional_frames.specs.Frames.{default_at, default_ended, link_at, link_objected}
+use Rattle.rl_optional_frames.specs.Parts.{default_begun}
 use Rattle.rl_promises.specs.Locals.{IsSmallSpan, KnowsNames}
-use Rattle.rl_promises.specs.Rows.{refusal}
+use Rattle.rl_promises.specs.Moved.{type_name}
+use Rattle.rl_promises.specs.Rows.{refusal, row_of_head}
 use Rattle.rl_syntax.specs.declared.numbered.At.{At}
 use Rattle.rl_syntax.specs.declared.word.Word.{Word}
 use Rattle.rl_syntax.specs.declared.word.Word.TheVariants as word
@@ -41,38 +46,45 @@ use Rattle.rl_lowered.specs.Forms.{Front, Lent, call_of, front_places, is_proper
 use Rattle.rl_lowered.specs.Forms.{IsForm, IsMember, Indexed, MemberKey, Numbered, Static, load_of, places_in, type_of, typed}
 use Rattle.rl_lowered.specs.Lowered.{Asserted, Broken, Chain, FrontAlone, FrontBroken, FrontLink, FrontMethod, LinkedCall, LinkedPrivate}
 use Rattle.rl_lowered.specs.Lowered.{LinkedProperty, Lowered, LoweredFront, LoweredLast, LoweredLink, LoweredParts, LoweredSpine, Outermost}
-use Rattle.rl_lowered.specs.Lowered.{AssignedConstant, AssignedGlobal, AssignedMember, AssignedPrivate, AssignedVariable}
+use Rattle.rl_lowered.specs.Lowered.{AssignedConstant, AssignedGlobal, AssignedMember, AssignedPattern, AssignedPrivate, AssignedVariable}
+use Rattle.rl_lowered.specs.Lowered.{LoweredLater, LoweredMoved, LoweredTarget, Moved, NextLater, NoLater, Stays, TargetConstant}
+use Rattle.rl_lowered.specs.Lowered.{TargetDefaulted, TargetGlobal, TargetLost, TargetMember, TargetPattern, TargetVariable}
 use Rattle.rl_lowered.specs.Lowered.{CompoundConstant, CompoundGlobal, CompoundMember, CompoundPrivate, CompoundVariable}
 use Rattle.rl_lowered.specs.Lowered.{Asked, Cast, Conditional, Global, Literal, Logical, Method, Object, Private, Refused, RefusedBefore}
-use Rattle.rl_lowered.specs.Lowered.{RefusedBehind, RefusedGlobal, Same, Sequence, UpdatedConstant, UpdatedMember, UpdatedVariable, Variable}
+use Rattle.rl_lowered.specs.Lowered.{RefusedBehind, RefusedGlobal, Same, Sequence, UpdatedConstant, UpdatedMember, UpdatedVariable}
+use Rattle.rl_lowered.specs.Lowered.{Variable}
 use Rattle.rl_lowered.specs.Lowered.{EarlierPart, LastPart, NextComputed, NextFraction, NextHole, NextPart, NextProperty, NextSpread}
 use Rattle.rl_lowered.specs.Lowered.{NextUnknown, NoPart}
 use Rattle.rl_lowered.specs.Lowered.{binary_of, member_loaded, member_one, member_result, member_stored, member_updated, update_of}
 use Rattle.rl_lowered.specs.Lowered.{private_met, value_span}
+use Rattle.rl_lowered.specs.Items.{Later, destructured}
 use Rattle.rl_lowered.specs.Named.{IsFound, found}
 use Rattle.rl_lowered.specs.Sound.{AreSmallTrees, IsSmallTree, IsSoundPlace, StaysSound}
 use Rattle.rl_lowered.proofs.Keys.{has_text}
 use Rattle.rl_lowered.proofs.SoundAssignments.{assigned_constant_sound, assigned_global_sound, assigned_member_sound}
 use Rattle.rl_lowered.proofs.SoundAssignments.{assigned_private_sound, assigned_variable_sound, compound_constant_sound}
 use Rattle.rl_lowered.proofs.SoundAssignments.{compound_global_sound, compound_member_sound, compound_private_sound}
-use Rattle.rl_lowered.proofs.SoundAssignments.{compound_variable_sound, constant_sound}
+use Rattle.rl_lowered.proofs.SoundAssignments.{compound_variable_sound, constant_sound, outer_stored, taken, target_small}
 use Rattle.rl_lowered.proofs.SoundChains.{WasMade, call_value, handed_sound, objected_grow, opened_made, places_grown, private_value}
 use Rattle.rl_lowered.proofs.SoundChains.{property_small, property_value, tested_sound, whole_link}
-use Rattle.rl_lowered.proofs.SoundForms.{AreWritten, cast_small, form_places, form_small, form_writable, hole_utf8}
+use Rattle.rl_lowered.proofs.SoundDefaults.{default_sound}
+use Rattle.rl_lowered.proofs.SoundForms.{AreWritten, cast_small, defaulted_small, form_places, form_small, form_writable, hole_utf8}
 use Rattle.rl_lowered.proofs.SoundForms.{key_utf8, literal_writable, member_small, method_places}
 use Rattle.rl_lowered.proofs.SoundForms.{method_writable, object_places, object_writable, private_small, refusing_small}
 use Rattle.rl_lowered.proofs.SoundForms.{wrapper_small}
 use Rattle.rl_lowered.proofs.SoundFrames.{logical_sound, sequence_sound, ternary_sound}
+use Rattle.rl_lowered.proofs.SoundItems.{IsKnownLater, IsSmallLater, IsSoundLater, SmallTarget, ahead_sound, apart_sound, behind_items}
+use Rattle.rl_lowered.proofs.SoundItems.{given_later, given_target, laters_by, laters_next, taken_sound, target_by}
 use Rattle.rl_lowered.proofs.SoundListing.{binary_writable, cast_writable, local_writable}
 use Rattle.rl_lowered.proofs.SoundListing.{number_writable, outer_writable, sum_utf8, type_writable, undefined_writable}
 use Rattle.rl_lowered.proofs.SoundListing.{updated_writable}
 use Rattle.rl_lowered.proofs.SoundMoves.{counters_before, none_known, one_known, place_later, place_next}
 use Rattle.rl_lowered.proofs.SoundMoves.{place_weaker, sound_next, sound_recorded, sound_refl}
 use Rattle.rl_lowered.proofs.SoundMoves.{sound_then, sound_typed, sound_value, sound_weaker, value_place}
-use Rattle.rl_lowered.proofs.SoundNames.{sound_found}
+use Rattle.rl_lowered.proofs.SoundNames.{found_below, sound_found}
 use Rattle.rl_lowered.proofs.SoundTrees.{each_small, span_small}
 use Rattle.rl_lowered.proofs.SoundValues.{IsSound, loaded_sound, one_place, over_sound, places_next, places_weaker, property_stored}
-use Rattle.rl_lowered.proofs.SoundValues.{value_sound, variable_place}
+use Rattle.rl_lowered.proofs.SoundValues.{property_taken, value_sound, variable_place, variable_stored}
 use Rattle.rl_lowered.proofs.Spanned.{value_spanned}
 
 -- A variable
@@ -197,7 +209,8 @@ member_update_sound : (small : Type 0) (s t : State) (there : At) (operator : Up
     → IsSound small s (member_stored t object key operator there.span) (member_result t object key operator prefix there.span)
 member_update_sound small s t there operator prefix {pieces} {object} {key} is before all inner = (
   sound_next small s t stored before
-      (sound_next small t loaded stored first.0 (sound_next small loaded one stored second (sound_next small one updated stored third.0 fourth.0))),
+      (sound_next small t loaded stored first.0
+      (sound_next small loaded one stored second (sound_next small one updated stored third.0 fourth.0))),
   result prefix,
 )
   where
@@ -237,7 +250,8 @@ member_update_sound small s t there operator prefix {pieces} {object} {key} is b
 
     third : IsSound small one updated new
     third =
-        value_sound small one one (values.BinaryExpression (binary_of operator) old (temporary loaded None)) there.span (sound_refl small one)
+        value_sound small one one (values.BinaryExpression (binary_of operator) old (temporary loaded None)) there.span
+        (sound_refl small one)
         (All-cons (λ (q : Place). q.identifier.0 < length one.env.identifiers) old (temporary loaded None ∷ []) old_one.known
         (one_known (length one.env.identifiers) (temporary loaded None) one_made.known))
         (λ holds fits. binary_writable (binary_of operator) old (temporary loaded None) (sum_utf8 operator) (old_one.writable holds fits)
@@ -452,6 +466,12 @@ mutual
       assigned_member_sound at there (codes "=") right is s t u p (expression_sound knows by) (all_sound knows all)
   expression_sound knows (AssignedPrivate at there object name right s t u p q by more) =
       assigned_private_sound at there object name right s t u p q (expression_sound knows by) (expression_sound knows more)
+  expression_sound knows (AssignedPattern at there w fields right s t u p q is by more) =
+      let small : Type 0 = IsSmallTree (Node at word.Assign (Then (Said (codes "=")) (Then (Node there w fields) (Then right End)))) in
+      let value : IsSound small s t p = taken at (codes "=") (Node there w fields) right s t p (expression_sound knows by) in
+      let rest = target_by small there.span p (Node there w fields) t u q (target_small at (codes "=") (Node there w fields) right)
+      (λ holds. holds.0.1.1.0.0) value.1 (λ below. target_sound knows more below) in
+      (sound_next small s t u value.0 rest.0, rest.1)
   expression_sound {names} knows
       (CompoundVariable at there name operator applied right symbol identifier s t u q p is mutable applies by more f) =
       compound_variable_sound names at there name (assignment_text operator) applied right symbol identifier s t u q p
@@ -520,6 +540,84 @@ mutual
         sound_weaker (IsSmallTree e) small s t (λ holds. (holds.0.1.0, holds.1.1.0)) inner.0,
         place_weaker (IsSmallTree e) small t p (λ holds. (holds.0.1.0, holds.1.1.0)) inner.1,
       )
+
+  -- A default.
+  pub moved_sound : {names : Names} {e : Syntax} {s t : State} {p : Place} → KnowsNames names → LoweredMoved names e s t p
+      → IsSound (IsSmallTree e) s t p
+  moved_sound knows (Stays e s t p is by) = expression_sound knows by
+  moved_sound knows (Moved at w fields s t p is by) =
+      let small : Type 0 = IsSmallTree (Node at w fields) in
+      let noted : Diagnostic = diagnostic_at row.F29 (type_name w) at.span in
+      let inner = expression_sound knows by in
+      (sound_next small s (recorded s noted) t (sound_recorded small s noted) inner.0, inner.1)
+
+  -- A target, whose value is in a place that was made.
+  pub target_sound : {names : Names} {at : Span} {value : Place} {e : Syntax} {s t : State} {p : Place} → KnowsNames names
+      → LoweredTarget names at value e s t p → value.identifier.0 < length s.env.identifiers → IsSound (SmallTarget at value e s) s t p
+  target_sound {names} {at} {value} {e} knows (TargetVariable there name symbol identifier s is mutable f) below =
+      variable_stored (SmallTarget at value e s) s (found names s symbol there.span) kinds.Reassign identifier at at value
+      (sound_found (SmallTarget at value e s) names s symbol there.span identifier f (λ holds. holds.0.0.0))
+      (found_below names s symbol there.span identifier f) (given_target at value e s below) (λ holds. holds.1.0) (λ holds. holds.1.0)
+  target_sound {names} {at} {value} {e} knows (TargetConstant there name symbol identifier s is constant f) below =
+      let small : Type 0 = SmallTarget at value e s in
+      let first : State = found names s symbol there.span in
+      let noted : Diagnostic = diagnostic_at row.F6 (names.name symbol.0) there.span in
+      let stays : StaysSound small s (recorded first noted) =
+      sound_next small s first (recorded first noted)
+      (sound_found small names s symbol there.span identifier f (λ holds. holds.0.0.0)) (sound_recorded small first noted) in
+      (stays, place_next small s (recorded first noted) value stays (given_target at value e s below))
+  target_sound {at} {value} {e} knows (TargetGlobal there name binding s is) below =
+      let small : Type 0 = SmallTarget at value e s in
+      outer_stored small s s name value at (sound_refl small s, given_target at value e s below) (λ holds. holds.0.1.1.0)
+      (λ holds. holds.1.0)
+  target_sound {at} {value} {e} knows (TargetMember there w fields parts pieces object key s t is all) below =
+      let small : Type 0 = SmallTarget at value e s in
+      let inner = all_sound knows all in
+      let parts_small : small → AreSmallTrees parts = λ holds. member_small is there holds.0 in
+      let before : StaysSound small s t = sound_weaker (AreSmallTrees parts) small s t parts_small inner.0 in
+      property_taken small s t there value at is before
+      (places_weaker (AreSmallTrees parts) small t (places_in pieces) parts_small inner.1)
+      (place_next small s t value before (given_target at value e s below)) (λ holds. holds.0) (λ holds. holds.1.0)
+  target_sound {at} {value} {e} knows (TargetLost there w fields s is) below =
+      let small : Type 0 = SmallTarget at value e s in
+      let noted : Diagnostic = refusal (row_of_head w) there.span in
+      let stays : StaysSound small s (recorded s noted) = sound_recorded small s noted in
+      (stays, place_next small s (recorded s noted) value stays (given_target at value e s below))
+  target_sound {at} {value} {e} knows (TargetDefaulted there w fields target default s t u q p is by rest) below =
+      let small : Type 0 = SmallTarget at value e s in
+      let parts : small → IsSmallTree target × IsSmallTree default = λ holds. defaulted_small is there holds.0 in
+      let ended : State = default_ended (default_at s there.span value) t q in
+      let inner = moved_sound knows by in
+      let frame = default_sound small s t q value there.span (λ holds. holds.0.0.0) (given_target at value e s below)
+      (sound_weaker (IsSmallTree default) small (default_begun s there.span) t (λ holds. (parts holds).1) inner.0)
+      (place_weaker (IsSmallTree default) small t q (λ holds. (parts holds).1) inner.1) in
+      let last = target_by small there.span (temporary s (Some there.span)) target ended u p (λ holds. (parts holds).0)
+      (λ holds. holds.0.0.0) frame.1 (λ known. target_sound knows rest known) in
+      (sound_next small s ended u frame.0 last.0, last.1)
+  target_sound {at} {value} {e} knows
+      (TargetPattern there w of_object forced es rest pattern pieces later s t u v is ahead taken_are are left) below =
+      let small : Type 0 = SmallTarget at value e s in
+      let all : small → AreSmallTrees es = λ holds. (holds.0.0.1.0, holds.0.1.1.0) in
+      let last : small → IsSmallTree rest = λ holds. (holds.0.0.1.1.0, holds.0.1.1.1.0) in
+      let apart : State = with_value u (destructured kinds.Reassign pattern value) (Some at) in
+      apart_sound small kinds.Reassign pattern of_object value at u pieces are s v later
+      (behind_items small s t u pieces later (ahead_sound small ahead all) (taken_sound small taken_are all last))
+      (given_target at value e s below) (λ holds. holds.1.0)
+      (λ each. laters_by small apart v later each (λ known. later_sound knows left known))
+
+  pub later_sound : {names : Names} {later : List Later} {s t : State} → KnowsNames names → LoweredLater names later s t
+      → All (IsKnownLater s) later → StaysSound (All (IsSmallLater s) later) s t
+  later_sound knows (NoLater s) below = sound_refl (All (IsSmallLater s) []) s
+  later_sound knows (NextLater value part later s t u p by more) below =
+      let here : Later = record { value = value; part = part } in
+      let small : Type 0 = All (IsSmallLater s) (here ∷ later) in
+      let each : All (IsSoundLater small s) (here ∷ later) = given_later s (here ∷ later) below in
+      let one : IsSoundLater small s here = All-head (IsSoundLater small s) here later each in
+      let first = target_by small (span_of part) value part s t p one.part (λ holds. span_small part (one.part holds).0) one.value
+      (λ known. target_sound knows by known) in
+      sound_next small s t u first.0
+      (laters_by small t u later (laters_next small s t later first.0 (All-tail (IsSoundLater small s) here later each))
+      (λ known. later_sound knows more known))
 
   pub spine_sound : {names : Names} {below : Bool} {e : Syntax} {s t : State} {p : Place} → KnowsNames names
       → LoweredSpine names below e s t p → StaysSound (IsSmallTree e) s t × IsSoundPlace (IsSmallTree e) t p

@@ -27,8 +27,8 @@ use Rattle.rl_lowered.proofs.SoundNames.{found_below, sound_found}
 use Rattle.rl_lowered.proofs.SoundValues.{IsSound, loaded_sound, one_place, over_sound, places_next, places_weaker, property_stored}
 use Rattle.rl_lowered.proofs.SoundValues.{value_sound, variable_place, variable_stored}
 use Rattle.rl_lowered.specs.Forms.{IsMember, MemberKey, load_of, places_in, store_of}
+use Rattle.rl_lowered.specs.Items.{variable_at}
 use Rattle.rl_lowered.specs.Lowered.{assigned_to, member_assigned, member_computed, name_computed, name_found, name_reloaded, name_stored}
-use Rattle.rl_lowered.specs.Lowered.{variable_at}
 use Rattle.rl_lowered.specs.Named.{IsFound, found}
 use Rattle.rl_lowered.specs.Sound.{AreSmallTrees, IsSmallTree, IsSoundPlace, StaysSound}
 use Rattle.rl_names.specs.Names.{Names}
@@ -42,13 +42,13 @@ use Rattle.rl_text.specs.Notation.{IsWritable}
 
 -- Undefined stands for what is refused.
 
-undefined_sound : (small : Type 0) (s t : State) (span : Span) → StaysSound small s t → (small → IsSmallSpan span)
+pub undefined_sound : (small : Type 0) (s t : State) (span : Span) → StaysSound small s t → (small → IsSmallSpan span)
     → IsSound small s (with_value t (values.Primitive primitives.Undefined) (Some span)) (temporary t (Some span))
 undefined_sound small s t span before at =
     value_sound small s t (values.Primitive primitives.Undefined) span before (none_known (length t.env.identifiers))
     (λ holds fits. undefined_writable) at
 
-noted_sound : (small : Type 0) (s t : State) (d : Diagnostic) (span : Span) → StaysSound small s t → (small → IsSmallSpan span)
+pub noted_sound : (small : Type 0) (s t : State) (d : Diagnostic) (span : Span) → StaysSound small s t → (small → IsSmallSpan span)
     → IsSound small s (with_value (recorded t d) (values.Primitive primitives.Undefined) (Some span)) (temporary (recorded t d) (Some span))
 noted_sound small s t d span before at =
     undefined_sound small s (recorded t d) span (sound_next small s t (recorded t d) before (sound_recorded small t d)) at
@@ -78,7 +78,7 @@ found_stored small names s t symbol there span identifier value given f there_sm
     )
 
 -- Any other name takes a value.
-outer_stored : (small : Type 0) (s t : State) (name : List ℕ) (value : Place) (span : Span) → IsSound small s t value
+pub outer_stored : (small : Type 0) (s t : State) (name : List ℕ) (value : Place) (span : Span) → IsSound small s t value
     → (small → IsUtf8 name) → (small → IsSmallSpan span)
     → IsSound small s (with_value t (values.StoreGlobal name value) (Some span)) (temporary t (Some span))
 outer_stored small s t name value span given utf8 at =
@@ -90,7 +90,7 @@ outer_stored small s t name value span given utf8 at =
 operator_utf8 : (operator : BinaryOperator) → IsUtf8 (operator_text operator)
 operator_utf8 operator = text_utf8 operator_text operators operators_found refl operator
 
-combined_sound : (small : Type 0) (s t : State) (operator : BinaryOperator) (q p : Place) (span : Span) → StaysSound small s t
+pub combined_sound : (small : Type 0) (s t : State) (operator : BinaryOperator) (q p : Place) (span : Span) → StaysSound small s t
     → IsSoundPlace small t q → IsSoundPlace small t p → (small → IsSmallSpan span)
     → IsSound small s (with_value t (values.BinaryExpression operator q p) (Some span)) (temporary t (Some span))
 combined_sound small s t operator q p span before first second at =
@@ -191,20 +191,20 @@ both_sound P Q R s t u q p one other a b = record {
 
 -- An assignment with this operator, target and right part.
 module _ (at : At) (operator : List ℕ) (target right : Syntax) where
-  abbrev IsSmall : Type 0
+  abbrev pub IsSmall : Type 0
   IsSmall = IsSmallTree (Node at word.Assign (Then (Said operator) (Then target (Then right End))))
 
   at_small : IsSmall → IsSmallSpan at.span
   at_small holds = holds.0.0
 
-  target_small : IsSmall → IsSmallTree target
+  pub target_small : IsSmall → IsSmallTree target
   target_small holds = (holds.0.1.1.0, holds.1.1.1.0)
 
   right_small : IsSmall → IsSmallTree right
   right_small holds = (holds.0.1.1.1.0, holds.1.1.1.1.0)
 
   -- The right part alone
-  taken : (s t : State) (p : Place) → IsSound (IsSmallTree right) s t p → IsSound IsSmall s t p
+  pub taken : (s t : State) (p : Place) → IsSound (IsSmallTree right) s t p → IsSound IsSmall s t p
   taken s t p inner = (
     sound_weaker (IsSmallTree right) IsSmall s t right_small inner.0,
     place_weaker (IsSmallTree right) IsSmall t p right_small inner.1,

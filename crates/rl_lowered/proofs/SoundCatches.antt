@@ -1,10 +1,7 @@
 -- The soundness of `throw`, `try` and `switch` statements, from that of their parts.
 use Rattle.std.proofs.Common.{ℕ, ◌-◌, ◌<◌, ◌≤◌, ◌++◌, Bool, true, false, List, [], ◌∷◌, All, length, Option, Some, None, refl, sym}
-use Rattle.std.proofs.Common.{ap, subst, arith, codes, append-nil, is_some, lit<}
+use Rattle.std.proofs.Common.{ap, subst, arith, append-nil, is_some, lit<}
 use Rattle.std.proofs.lemmas.List.Elements.{All-append, All-cons, All-push, All-take, All-head, All-tail}
-use Rattle.std.proofs.lemmas.Str.{IsUtf8-append, IsUtf8-from_ascii}
-use Rattle.std.specs.Fmt.{decimal}
-use Rattle.std.specs.Str.{IsUtf8}
 use Rattle.rl_base.specs.declared.ids.BlockId.{BlockId}
 use Rattle.rl_base.specs.declared.ids.SymbolId.{SymbolId}
 use Rattle.rl_base.specs.declared.row.Row.TheVariants as row
@@ -15,7 +12,6 @@ use Rattle.rl_frames.specs.Frames.{try_after, try_at, try_caught, try_ended}
 use Rattle.rl_frames.specs.Parts.{try_begun, try_end, try_handler, try_started}
 use Rattle.rl_frames.specs.SwitchParts.{case_begun, case_ended, fall_of, switch_begun, switch_end, switch_finished, with_default}
 use Rattle.rl_hir.specs.declared.function.BlockKind.TheVariants as block
-use Rattle.rl_hir.specs.declared.function.Identifier.{Identifier}
 use Rattle.rl_hir.specs.declared.instruction.InstructionKind.TheVariants as kinds
 use Rattle.rl_hir.specs.declared.instruction.Place.{Place}
 use Rattle.rl_hir.specs.declared.terminal.Case.{Case}
@@ -23,16 +19,17 @@ use Rattle.rl_hir.specs.declared.terminal.GotoVariant.TheVariants as gotos
 use Rattle.rl_hir.specs.declared.terminal.Terminal.{Terminal}
 use Rattle.rl_hir.specs.declared.terminal.TerminalKind.TheVariants as ends
 use Rattle.rl_hir.specs.Listing as listing
-use Rattle.rl_lowered.proofs.Catches.{catch_declared, declares_caught, length_promoted}
+use Rattle.rl_lowered.proofs.Catches.{catch_declared, declares_caught}
+use Rattle.rl_lowered.proofs.SoundItems.{caught_place, sound_promoted}
 use Rattle.rl_lowered.proofs.SoundListing.{all_writable, declared_writable, span_writable}
-use Rattle.rl_lowered.proofs.SoundMoves.{counters_before, empty_writable, none_known, one_known, place_later, place_made, place_next}
+use Rattle.rl_lowered.proofs.SoundMoves.{counters_before, empty_writable, none_known, one_known, place_later, place_next}
 use Rattle.rl_lowered.proofs.SoundMoves.{place_weaker, sound_completed, sound_ended, sound_entered, sound_last_hole, sound_next}
 use Rattle.rl_lowered.proofs.SoundMoves.{sound_next_hole, sound_recorded, sound_refl, sound_reserved, sound_scopes, sound_weaker}
-use Rattle.rl_lowered.proofs.SoundMoves.{table_more, terminals_more}
-use Rattle.rl_lowered.proofs.SoundNames.{decimal_ascii, found_below, sound_found}
+use Rattle.rl_lowered.proofs.SoundNames.{found_below, sound_found}
 use Rattle.rl_lowered.proofs.SoundTrees.{span_small}
 use Rattle.rl_lowered.proofs.SoundValues.{IsSound, one_place, over_sound, variable_stored}
-use Rattle.rl_lowered.specs.Lowered.{catch_at, catch_begun, catch_bound, caught, promoted, promoted_identifier, throwing, throwing_under}
+use Rattle.rl_lowered.specs.Items.{caught, promoted}
+use Rattle.rl_lowered.specs.Lowered.{catch_at, catch_begun, catch_bound, throwing, throwing_under}
 use Rattle.rl_lowered.specs.Named.{IsFound, found}
 use Rattle.rl_lowered.specs.Sound.{AreSmallTrees, CountersGrow, HasSmallCounters, HasSmallTargets, IsSmallTree, IsSoundPlace, StaysSound}
 use Rattle.rl_machine.specs.Machine.{default_case}
@@ -49,20 +46,6 @@ use Rattle.rl_text.specs.Notation.{IsWritable}
 use Rattle.rl_text.specs.Number.{largest}
 
 -- Listings
-
-prefix_utf8 : IsUtf8 (codes "#t")
-unfolding lib.Utf8.encode
-prefix_utf8 = (codes "#t", (refl, refl))
-
-promoted_writable : (id type : ℕ) (span : Span) → IsSmallSpan span → type ≤ largest
-    → IsWritable (listing.identifier (promoted_identifier id type span))
-promoted_writable id type span at fits = (
-  (lit< tt, refl),
-  (
-    ((lit< tt, refl), (IsUtf8-append (codes "#t") (decimal id) prefix_utf8 (IsUtf8-from_ascii (decimal id) (decimal_ascii id)), tt)),
-    (span_writable span at, (fits, tt)),
-  ),
-)
 
 thrown_writable : (p : Place) (at : Span) → IsWritable (listing.place p) → IsSmallSpan at
     → IsWritable (listing.terminal (ends_by (ends.Throw p) (Some at)))
@@ -188,39 +171,6 @@ tried_sound small d s2 s3 behind part other end room part_at other_at first seco
     back = sound_last_hole small d left behind gotos.Try other to_left (λ fits. omega (arith, room3, fits.blocks)) other_at
 
 -- The front of a `catch` whose parameter is a variable
-
-sound_promoted : (small : Type 0) (s : State) (span : Span) → (small → IsSmallSpan span) → StaysSound small s (promoted s span)
-sound_promoted small s span at = record {
-  counters = grow;
-  known = λ known. record {
-    table = table_more (length s.env.identifiers) (length made.env.identifiers) s.table grow.identifiers known.table;
-    terminals = terminals_more (length s.env.identifiers) (length made.env.identifiers) s.completed grow.identifiers known.terminals;
-  };
-  parts = λ holds fits w.
-      record { table = w.table; completed = w.completed; current = w.current; listed = w.listed; handlers = w.handlers; scopes = w.scopes };
-  identifiers = λ holds fits w.
-      let before : HasSmallCounters s = counters_before s made grow fits in
-      All-push (λ (i : Identifier). IsWritable (listing.identifier i)) s.env.identifiers
-      (promoted_identifier (length s.env.identifiers) s.env.next_type span) w
-      (promoted_writable (length s.env.identifiers) s.env.next_type span (at holds) before.types);
-  pairs = λ fits w. w;
-}
-  where
-    made : State
-    made = promoted s span
-
-    grow : CountersGrow s made
-    grow = record {
-      blocks = omega arith;
-      types = omega arith;
-      identifiers = omega (arith, length_promoted s span);
-      instructions = omega arith;
-    }
-
-caught_place : (small : Type 0) (s : State) (span : Span) → (small → IsSmallSpan span)
-    → IsSoundPlace small (promoted s span) (caught s span)
-caught_place small s span at =
-    place_made small (promoted s span) (length s.env.identifiers) span (omega (arith, length_promoted s span)) at
 
 pub declared_sound : (small : Type 0) (s : State) (param : Span) → (small → IsSmallSpan param)
     → StaysSound small s (catch_declared s param) × IsSoundPlace small (catch_declared s param) (caught s param)

@@ -28,6 +28,7 @@ use Rattle.rl_syntax.specs.declared.word.Word.{Word as NodeWord}
 use Rattle.rl_syntax.specs.Syntax.{Syntax, Node, Pieces, plain, plain_parts}
 use Rattle.rl_text.specs.Notation.{IsWord, IsWritable, AreWritable}
 use Rattle.rl_text.specs.Numeral.{is_numeral, number_of}
+use Rattle.rl_lowered.specs.Forms.{DefaultName, DefaultTarget, IsDefaulted}
 use Rattle.rl_lowered.specs.Forms.{AreQuasis, IsCast, IsForm, IsInside, IsLiteral, IsMember, IsPrivate, IsRefusing, IsWrapper, MemberKey}
 use Rattle.rl_lowered.specs.Forms.{NextQuasi, NextUncooked, NoQuasi, delete_of, load_of, places_in, store_of}
 use Rattle.rl_lowered.specs.Forms.{Array, Await, Binary, Call, Delete, ImportMeta, Load, New, RegExp, Tagged, Template, Unary}
@@ -62,13 +63,18 @@ cast_small As at small = ((small.0.1.0, small.1.1.0), (small.0.1.1.0, small.1.1.
 cast_small Satisfies at small = ((small.0.1.0, small.1.1.0), (small.0.1.1.0, small.1.1.1.0))
 cast_small Assert at small = ((small.0.1.1.0, small.1.1.1.0), (small.0.1.0, small.1.1.0))
 
+pub defaulted_small : {w : NodeWord} {fields : Pieces} {target default : Syntax} → IsDefaulted w fields target default → (at : At)
+    → IsSmallTree (Node at w fields) → IsSmallTree target × IsSmallTree default
+defaulted_small (DefaultTarget whole) at small = ((small.0.1.0, small.1.1.0), (small.0.1.1.0, small.1.1.1.0))
+defaulted_small (DefaultName whole is) at small = ((small.0.1.0, small.1.1.0), (small.0.1.1.0, small.1.1.1.0))
+
 pub private_small : {w : NodeWord} {fields : Pieces} {e : Syntax} → IsPrivate w fields e → (at : At) → IsSmallTree (Node at w fields)
     → IsSmallTree e
 private_small PrivateUpdate at small = (small.0.1.1.1.0, small.1.1.1.1.0)
 private_small (PrivateDelete operator is inside) at small = inside_small inside (small.0.1.1.0, small.1.1.1.0)
 
-pub refusing_small : {w : NodeWord} {fields parts : Pieces} {r : Row} → IsRefusing w fields parts r → (at : At) → IsSmallTree (Node at w fields)
-    → AreSmallTrees parts
+pub refusing_small : {w : NodeWord} {fields parts : Pieces} {r : Row} → IsRefusing w fields parts r → (at : At)
+    → IsSmallTree (Node at w fields) → AreSmallTrees parts
 refusing_small PrivateIn at small = (small.0.1.1, small.1.1.1)
 refusing_small ImportCall at small = ((small.0.1.0, tt), (small.1.1.0, tt))
 refusing_small ImportCallWith at small = (small.0.1, small.1.1)
@@ -178,14 +184,14 @@ pub hole_utf8 : IsUtf8 (codes "hole")
 unfolding lib.Utf8.encode
 hole_utf8 = (codes "hole", (refl, refl))
 
-dot_utf8 : IsUtf8 (46 ∷ [])
+pub dot_utf8 : IsUtf8 (46 ∷ [])
 unfolding lib.Utf8.encode
 dot_utf8 = (46 ∷ [], (refl, refl))
 
 abbrev pub WritesPlace : Place → Type 0
 WritesPlace p = IsWritable (listing.place p)
 
-texts_written : (pieces : List Piece) → AreWritten pieces → AreWritable (row_parts rows.Texts pieces)
+pub texts_written : (pieces : List Piece) → AreWritten pieces → AreWritable (row_parts rows.Texts pieces)
 texts_written [] w = tt
 texts_written (Says text ∷ pieces) w = (w.0, texts_written pieces w.1)
 texts_written (Names name ∷ pieces) w = (w.0, texts_written pieces w.1)
@@ -194,7 +200,7 @@ texts_written (Spreads p ∷ pieces) w = (spread_utf8, texts_written pieces w)
 texts_written (Takes (Use p) ∷ pieces) w = texts_written pieces w
 texts_written (Takes (Key key) ∷ pieces) w = texts_written pieces w.1
 
-operands_written : (pieces : List Piece) → AreWritten pieces → All WritesPlace (places_in pieces)
+pub operands_written : (pieces : List Piece) → AreWritten pieces → All WritesPlace (places_in pieces)
     → AreWritable (row_parts rows.Operands pieces)
 operands_written [] w all = tt
 operands_written (Says text ∷ pieces) w all = operands_written pieces w.1 all
@@ -306,7 +312,8 @@ pub method_writable : (object method : Place) (given : List PlaceOrSpread) (piec
     → All WritesPlace (object ∷ method ∷ places_in pieces)
     → IsWritable (listing.value (values.MethodCall (record { receiver = object; property = method; arguments = given })))
 method_writable object method given pieces is all =
-    asks_writable (codes "methodcall") (used object ∷ used method ∷ gathered argument_pieces given) (lit< tt, refl) (arguments_written given)
+    asks_writable (codes "methodcall") (used object ∷ used method ∷ gathered argument_pieces given) (lit< tt, refl)
+    (arguments_written given)
     (subst (λ (l : List Piece). All WritesPlace (object ∷ method ∷ places_in l)) (sym is) all)
 
 pub called_writable : (callee : Place) (given : List PlaceOrSpread) (pieces : List Piece) → gathered argument_pieces given ≡ pieces

@@ -20,8 +20,8 @@ use Rattle.rl_hir.specs.declared.terminal.TerminalKind.TheVariants as kinds
 use Rattle.rl_lowered.specs.Sound.{CountersGrow, IsSoundPlace, StaysSound}
 use Rattle.rl_lowered.proofs.SoundListing.{branch_writable, if_writable, instruction_writable, local_writable, logical_writable}
 use Rattle.rl_lowered.proofs.SoundListing.{sequence_writable, span_writable, ternary_writable}
-use Rattle.rl_lowered.proofs.SoundMoves.{counters_then, empty_writable, grows_completed, identifiers_longer, none_known, one_known, place_grown}
-use Rattle.rl_lowered.proofs.SoundMoves.{place_made, place_next, sound_ended}
+use Rattle.rl_lowered.proofs.SoundMoves.{counters_then, empty_writable, grows_completed, identifiers_longer, none_known, one_known}
+use Rattle.rl_lowered.proofs.SoundMoves.{place_grown, place_made, place_next, sound_ended}
 use Rattle.rl_lowered.proofs.SoundMoves.{sound_entered, sound_last_hole, sound_next, sound_next_hole, sound_pushed}
 use Rattle.rl_lowered.proofs.SoundMoves.{sound_reserved, sound_stored, sound_temporary}
 use Rattle.rl_promises.specs.Locals.{IsSmallSpan}
@@ -29,11 +29,11 @@ use Rattle.rl_runs.specs.Moves.{block_id, branch, ends_by, last_hole, stored_in}
 
 -- Two blocks
 
-sound_two : (small : Type 0) (s : State) → StaysSound small s (reserved (reserved s))
+pub sound_two : (small : Type 0) (s : State) → StaysSound small s (reserved (reserved s))
 sound_two small s = sound_next small s (reserved s) _ (sound_reserved small s) (sound_reserved small (reserved s))
 
 -- The hole of a construct ends with a test of a place, and the block behind goes on.
-sound_branched : (small : Type 0) (old s : State) (test : Place) (consequent alternate behind : ℕ) (kind : BlockKind) (span : Span)
+pub sound_branched : (small : Type 0) (old s : State) (test : Place) (consequent alternate behind : ℕ) (kind : BlockKind) (span : Span)
     → StaysSound small old s → IsSoundPlace small s test → consequent < s.env.next_block → alternate < s.env.next_block
     → behind < s.env.next_block → (small → IsSmallSpan span)
     → StaysSound small old (completed_by s (branch test consequent alternate behind span) (new_block behind kind))

@@ -1,77 +1,37 @@
 -- Lowering the head of a loop over keys or values keeps places known and parts writable.
-use Rattle.std.proofs.Common.{ℕ, length, arith}
+use Rattle.std.proofs.Common.{true, length}
 use Rattle.rl_base.specs.Diagnostics.{diagnostic_at}
 use Rattle.rl_base.specs.declared.diagnostic.Diagnostic.{Diagnostic}
 use Rattle.rl_base.specs.declared.row.Row.TheVariants as row
-use Rattle.rl_base.specs.declared.span.Span.{Span}
 use Rattle.rl_builder.specs.Builder.{State, recorded}
-use Rattle.rl_hir.specs.Identifiers.{with_span}
-use Rattle.rl_hir.specs.Listing as listing
-use Rattle.rl_hir.specs.declared.function.Identifier.{Identifier}
 use Rattle.rl_hir.specs.declared.instruction.InstructionKind.TheVariants as variables
 use Rattle.rl_hir.specs.declared.instruction.InstructionValue.TheVariants as values
 use Rattle.rl_hir.specs.declared.instruction.Place.{Place}
-use Rattle.rl_lowered.proofs.Redeclared.{all_changed, length_redeclared}
-use Rattle.rl_lowered.proofs.Sound.{all_sound}
+use Rattle.rl_lowered.proofs.Sound.{all_sound, target_sound}
 use Rattle.rl_lowered.proofs.SoundForms.{global_store_writable, member_small}
-use Rattle.rl_lowered.proofs.SoundListing.{span_writable}
+use Rattle.rl_lowered.proofs.SoundItems.{met_below, sound_met, target_by}
 use Rattle.rl_lowered.proofs.SoundMoves.{one_known, place_next, sound_next, sound_recorded, sound_refl, sound_weaker}
-use Rattle.rl_lowered.proofs.SoundMoves.{table_more}
-use Rattle.rl_lowered.proofs.SoundMoves.{terminals_more}
 use Rattle.rl_lowered.proofs.SoundNames.{found_below, sound_found}
+use Rattle.rl_lowered.proofs.SoundPatterns.{pattern_sound}
 use Rattle.rl_lowered.proofs.SoundValues.{IsSound, places_weaker, property_stored, value_sound, variable_stored}
 use Rattle.rl_lowered.specs.Forms.{places_in}
-use Rattle.rl_lowered.specs.Lowered.{Declared, Lost, LoweredHead, Reassigned, ReassignedConstant, StoredGlobal, StoredMember, found_again}
-use Rattle.rl_lowered.specs.Lowered.{redeclared}
+use Rattle.rl_lowered.specs.Items.{found_again}
+use Rattle.rl_lowered.specs.Lowered.{Declared, DeclaredPattern, Lost, LoweredHead, Reassigned, ReassignedConstant, StoredGlobal}
+use Rattle.rl_lowered.specs.Lowered.{StoredMember, StoredPattern}
 use Rattle.rl_lowered.specs.Named.{found}
-use Rattle.rl_lowered.specs.Sound.{AreSmallTrees, CountersGrow, IsSmallTree, IsSoundPlace, StaysSound}
+use Rattle.rl_lowered.specs.Sound.{AreSmallTrees, IsSmallTree, IsSoundPlace, StaysSound}
 use Rattle.rl_names.specs.Names.{Names}
-use Rattle.rl_promises.specs.Locals.{IsSmallSpan, KnowsNames}
+use Rattle.rl_promises.specs.Locals.{KnowsNames}
 use Rattle.rl_promises.specs.Rows.{refusal, row_of_head}
 use Rattle.rl_syntax.specs.Syntax.{Syntax}
-use Rattle.rl_text.specs.Notation.{IsWritable}
-
--- An identifier gets another span.
-sound_redeclared : (small : Type 0) (s : State) (identifier : ℕ) (span : Span) → (small → IsSmallSpan span)
-    → StaysSound small s (redeclared s identifier span)
-sound_redeclared small s identifier span at = record {
-  counters = grow;
-  known = λ known. record {
-    table = table_more (length s.env.identifiers) (length again.env.identifiers) s.table grow.identifiers known.table;
-    terminals = terminals_more (length s.env.identifiers) (length again.env.identifiers) s.completed grow.identifiers known.terminals;
-  };
-  parts = λ holds fits w.
-      record { table = w.table; completed = w.completed; current = w.current; listed = w.listed; handlers = w.handlers; scopes = w.scopes };
-  identifiers = λ holds fits w.
-      all_changed (λ (i : Identifier). IsWritable (listing.identifier i)) (with_span span) identifier s.env.identifiers
-      (λ i written. (written.0, (written.1.0, (span_writable span (at holds), written.1.1.1)))) w;
-  pairs = λ fits w. w;
-}
-  where
-    again : State
-    again = redeclared s identifier span
-
-    grow : CountersGrow s again
-    grow = record {
-      blocks = omega arith;
-      types = omega arith;
-      identifiers = omega (arith, length_redeclared s identifier span);
-      instructions = omega arith;
-    }
 
 -- Names are UTF-8, and spans of declarations are small.
 pub head_sound : {names : Names} {value : Place} {e : Syntax} {s t : State} {p : Place} → KnowsNames names
     → LoweredHead names value e s t p → IsSoundPlace (IsSmallTree e) s value → IsSound (IsSmallTree e) s t p
 head_sound {names} {value} {e} knows (Declared at there bind kind name type symbol identifier s annotated is f) given =
-    let small : Type 0 = IsSmallTree e in
-    let bind_small : small → IsSmallSpan bind.span = λ holds. holds.0.1.1.0.0.1.0.0 in
-    let first : State = found names s symbol bind.span in
-    let again : State = found_again names s symbol identifier bind.span in
-    variable_stored small s again variables.Let identifier at.span at.span value
-    (sound_next small s first again (sound_found small names s symbol bind.span identifier f bind_small)
-    (sound_redeclared small first identifier bind.span bind_small))
-    (omega (arith, found_below names s symbol bind.span identifier f, length_redeclared first identifier bind.span)) given
-    (λ holds. holds.0.0) (λ holds. holds.0.0)
+    variable_stored (IsSmallTree e) s (found_again names s symbol identifier bind.span) variables.Let identifier at.span at.span value
+    (sound_met (IsSmallTree e) true names s symbol bind.span identifier f (λ holds. holds.0.1.1.0.0.1.0.0))
+    (met_below true names s symbol bind.span identifier f) given (λ holds. holds.0.0) (λ holds. holds.0.0)
 head_sound {names} {value} {e} knows (Reassigned at name symbol identifier s is mutable f) given =
     let small : Type 0 = IsSmallTree e in
     variable_stored small s (found names s symbol at.span) variables.Reassign identifier at.span at.span value
@@ -96,6 +56,10 @@ head_sound {value} {e} knows (StoredMember at w fields parts pieces object key s
     let before : StaysSound small s t = sound_weaker (AreSmallTrees parts) small s t parts_small inner.0 in
     property_stored small s t at value is before (places_weaker (AreSmallTrees parts) small t (places_in pieces) parts_small inner.1)
     (place_next small s t value before given) (λ holds. holds)
+head_sound {e} knows (DeclaredPattern at there kind pattern s t p is by) given =
+    pattern_sound (IsSmallTree e) knows by (λ holds. (holds.0.1.1.0.0.1.0, holds.1.1.1.0.0.1.0)) (λ holds. holds.0.0) given
+head_sound {value} {e} knows (StoredPattern at w fields s t p is by) given =
+    target_by (IsSmallTree e) at.span value e s t p (λ holds. holds) (λ holds. holds.0.0) given (λ below. target_sound knows by below)
 head_sound {value} {e} knows (Lost at w fields s is) given =
     let d : Diagnostic = refusal (row_of_head w) at.span in
     (sound_recorded (IsSmallTree e) s d, place_next (IsSmallTree e) s (recorded s d) value (sound_recorded (IsSmallTree e) s d) given)

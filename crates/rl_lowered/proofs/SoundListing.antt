@@ -1,5 +1,6 @@
 -- Listings that the notation has, from those of their parts.
-use Rattle.std.proofs.Common.{◌≡◌, Some, ℕ, ◌<◌, ◌≤◌, ◌^◌, Bool, true, false, List, [], ◌∷◌, map, All, Option, None, codes, lit<, refl, subst, arith}
+use Rattle.std.proofs.Common.{◌≡◌, Some, ℕ, ◌<◌, ◌≤◌, ◌^◌, Bool, true, false, List, [], ◌∷◌, map, All, Option, None, codes}
+use Rattle.std.proofs.Common.{lit<, refl, subst, arith}
 use Rattle.std.specs.Prelude.{IfSome}
 use Rattle.std.specs.Str.{IsUtf8}
 use Rattle.std.proofs.lemmas.List.Elements.{All-append, All-cons, All-head, All-nil, All-tail}
@@ -20,7 +21,8 @@ use Rattle.rl_hir.specs.Instructions.{argument_place, argument_shape, binding_te
 use Rattle.rl_hir.specs.Listing as listing
 use Rattle.rl_hir.specs.declared.function.IdentifierName.TheVariants.{Named}
 use Rattle.rl_hir.specs.Pieces.{Says, argument_pieces, gathered, row_parts}
-use Rattle.rl_hir.specs.Terminals.{Chooses, Field, Follows, Leads, MayLead, MayName, Names, fields_of, goto_variant, listed_id, names, return_variant, unreachable, with_order}
+use Rattle.rl_hir.specs.Terminals.{Chooses, Field, Follows, Leads, MayLead, MayName, Names, fields_of, goto_variant, listed_id}
+use Rattle.rl_hir.specs.Terminals.{names, return_variant, unreachable, with_order}
 use Rattle.rl_builder.specs.Builder.{State, ended_by, maybe_throw}
 use Rattle.rl_builder.specs.declared.blocks.WipBlock.{WipBlock}
 use Rattle.rl_hir.specs.declared.function.BlockKind.{BlockKind}
@@ -137,7 +139,8 @@ none_taken : (said : List (List ℕ)) → AreWritable (row_parts rows.Operands (
 none_taken [] = tt
 none_taken (text ∷ said) = none_taken said
 
-pub outer_writable : (binding : NonLocalBinding) → All IsUtf8 (binding_texts binding) → IsWritable (listing.value (values.LoadGlobal binding))
+pub outer_writable : (binding : NonLocalBinding) → All IsUtf8 (binding_texts binding)
+    → IsWritable (listing.value (values.LoadGlobal binding))
 outer_writable binding utf8 =
     ((lit< tt, refl), (said_writable (binding_texts binding) utf8, (none_taken (binding_texts binding), tt)))
 
@@ -173,7 +176,7 @@ stored_writable place value first second = ((lit< tt, refl), ((codes "const", (r
 
 -- Variables that are declared, stored and updated, and values under a type
 
-variable_kind_utf8 : (k : InstructionKind) → IsUtf8 (instruction_kind k)
+pub variable_kind_utf8 : (k : InstructionKind) → IsUtf8 (instruction_kind k)
 unfolding lib.Utf8.encode
 variable_kind_utf8 variables.Const = (codes "const", (refl, refl))
 variable_kind_utf8 variables.Let = (codes "let", (refl, refl))
@@ -227,7 +230,8 @@ pub instruction_ordered : (order : ℕ) (i : Instruction) → order ≤ largest 
 instruction_ordered order i fits w = ((lit< tt, refl), (fits, w.1.1))
 
 pub return_writable : (at : Option Span) (variant : ReturnVariant) (p : Place) → IsWritable (listing.optional listing.span at)
-    → IsWritable (listing.place p) → IsWritable (listing.terminal (record { order = record { 0 = 0 }; span = at; kind = ends.Return variant p }))
+    → IsWritable (listing.place p)
+    → IsWritable (listing.terminal (record { order = record { 0 = 0 }; span = at; kind = ends.Return variant p }))
 return_writable at variant p span place = ((lit< tt, refl), (omega arith, (span, (variant_utf8 variant, (place, tt)))))
 
 pub throw_writable : (continuation : ℕ) (handler : BlockId) (at : Option Span) → continuation ≤ largest → handler.0 ≤ largest
@@ -355,11 +359,14 @@ cases_small (c ∷ cases) w = All-cons IsSmallId c.block (map (λ x. x.block) ca
 names_small : (fields : List Field) → AreWritable (parts_of (map listing.field fields)) → All IsSmallId (names fields)
 names_small [] w = All-nil IsSmallId
 names_small (Leads block ∷ fields) w = All-cons IsSmallId block (names fields) w.0 (names_small fields w.1)
-names_small (MayLead block ∷ fields) w = All-append IsSmallId (listed_id block) (names fields) (optional_small block w.0) (names_small fields w.1)
-names_small (Chooses cases ∷ fields) w = All-append IsSmallId (map (λ c. c.block) cases) (names fields) (cases_small cases w.0) (names_small fields w.1)
+names_small (MayLead block ∷ fields) w =
+    All-append IsSmallId (listed_id block) (names fields) (optional_small block w.0) (names_small fields w.1)
+names_small (Chooses cases ∷ fields) w =
+    All-append IsSmallId (map (λ c. c.block) cases) (names fields) (cases_small cases w.0) (names_small fields w.1)
 names_small (Follows block ∷ fields) w = All-cons IsSmallId block (names fields) w.0 (names_small fields w.1)
 names_small (Names block ∷ fields) w = All-cons IsSmallId block (names fields) w.0 (names_small fields w.1)
-names_small (MayName block ∷ fields) w = All-append IsSmallId (listed_id block) (names fields) (optional_small block w.0) (names_small fields w.1)
+names_small (MayName block ∷ fields) w =
+    All-append IsSmallId (listed_id block) (names fields) (optional_small block w.0) (names_small fields w.1)
 names_small (_ ∷ fields) w = names_small fields w.1
 
 emptied_writable : (b : BlockPair) → IsWritable (listing.block b) → IsWritable (listing.block (b.0, emptied b.1))
@@ -396,7 +403,8 @@ blocks_stay = record {
   empties = emptied_writable;
   loses_update = without_update_writable;
   goes = goto_writable;
-  orders = λ b order within w. block_with b b.1.instructions (with_order order b.1.terminal) w.1.1.1.0 (terminal_ordered order b.1.terminal within w.1.1.1.1.0) w;
+  orders = λ b order within w. block_with b b.1.instructions (with_order order b.1.terminal) w.1.1.1.0
+      (terminal_ordered order b.1.terminal within w.1.1.1.1.0) w;
   links = linked_writable;
 }
 
@@ -406,8 +414,8 @@ pub unnamed_writable : (at : Option Span) (type : ℕ) → IsWritable (listing.o
     → IsWritable (listing.identifier (record { name = None; span = at; type_id = record { 0 = type } }))
 unnamed_writable at type span fits = ((lit< tt, refl), (tt, (span, (fits, tt))))
 
-pub named_writable : (name : List ℕ) (span : Option Span) (type : ℕ) → IsUtf8 name → IsWritable (listing.optional listing.span span) → type ≤ largest
-    → IsWritable (listing.identifier (record { name = Some (Named name); span = span; type_id = record { 0 = type } }))
+pub named_writable : (name : List ℕ) (span : Option Span) (type : ℕ) → IsUtf8 name → IsWritable (listing.optional listing.span span)
+    → type ≤ largest → IsWritable (listing.identifier (record { name = Some (Named name); span = span; type_id = record { 0 = type } }))
 named_writable name span type utf8 small fits =
     ((lit< tt, refl), (((lit< tt, refl), (utf8, tt)), (small, (fits, tt))))
 

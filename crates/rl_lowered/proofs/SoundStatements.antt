@@ -27,6 +27,7 @@ use Rattle.rl_hir.specs.declared.terminal.Case.{Case}
 use Rattle.rl_hir.specs.declared.terminal.ReturnVariant.TheVariants as returns
 use Rattle.rl_hir.specs.Listing as listing
 use Rattle.rl_lowered.proofs.Sound.{expression_sound}
+use Rattle.rl_lowered.proofs.SoundAssignments.{undefined_sound}
 use Rattle.rl_lowered.proofs.SoundCatches.{IsSoundCase, IsSoundTest, bound_tree_sound, case_tree_sound, switch_tree_sound}
 use Rattle.rl_lowered.proofs.SoundCatches.{throw_tree_sound, try_tree_sound}
 use Rattle.rl_lowered.proofs.SoundForms.{debugger_writable}
@@ -40,6 +41,7 @@ use Rattle.rl_lowered.proofs.SoundMoves.{empty_writable, none_known, place_made,
 use Rattle.rl_lowered.proofs.SoundMoves.{sound_refl, sound_reserved, sound_return, sound_returned, sound_then, sound_value, sound_weaker}
 use Rattle.rl_lowered.proofs.SoundMoves.{value_place}
 use Rattle.rl_lowered.proofs.SoundNames.{sound_found}
+use Rattle.rl_lowered.proofs.SoundPatterns.{pattern_sound}
 use Rattle.rl_lowered.proofs.SoundRounds.{forin_sound, forof_sound}
 use Rattle.rl_lowered.proofs.SoundTrees.{each_small, span_small}
 use Rattle.rl_lowered.proofs.SoundValues.{IsSound, one_place, over_sound, variable_place}
@@ -48,6 +50,7 @@ use Rattle.rl_lowered.specs.Lowered.{AwaitRefused, Block, Break, CaseMoved, Case
 use Rattle.rl_lowered.specs.Lowered.{Expression, Finalized, ForIn, ForOf, ForPlain, ForUpdated, IfElse, IfThen, Labeled, LabeledLoop}
 use Rattle.rl_lowered.specs.Lowered.{LoweredBody, LoweredCaseTest, LoweredCases, LoweredDeclarators, LoweredInit, LoweredLoop}
 use Rattle.rl_lowered.specs.Lowered.{LoweredStatement, LoweredStatements, LoweredTest, NextCase, NextDeclared, NextInitialized}
+use Rattle.rl_lowered.specs.Lowered.{NextTakenApart, NextUntaken}
 use Rattle.rl_lowered.specs.Lowered.{NextStatement, NoCase, NoCaseTest, NoDeclarator, NoInit, NoStatement, NoTest, RefusedInit, Return}
 use Rattle.rl_lowered.specs.Lowered.{ReturnNothing, Statements, Switch, Tested, Throw, TryBound, TryPlain, Uncaught, Unlabeled, Value}
 use Rattle.rl_lowered.specs.Lowered.{Variables, While, With, declaring, label_part, part_span}
@@ -359,7 +362,8 @@ declarators_sound : {names : Names} {at : Span} {k : InstructionKind} {es : Piec
     → LoweredDeclarators names at k es s t → StaysSound (IsSmallSpan at × AreSmallTrees es) s t
 declarators_sound {at} knows (NoDeclarator s) = sound_refl (IsSmallSpan at × AreSmallTrees End) s
 declarators_sound {names} {at} {k} knows (NextDeclared there bind name type more symbol identifier s u annotated is f rest) =
-    let declarator : Syntax = Node there word.Declarator (Then (Node bind word.Bind (Then (Said name) (Then type End))) (Then Absent End)) in
+    let bound : Syntax = Node bind word.Bind (Then (Said name) (Then type End)) in
+    let declarator : Syntax = Node there word.Declarator (Then bound (Then Absent End)) in
     let small : Type 0 = IsSmallSpan at × AreSmallTrees (Then declarator more) in
     let variable : Place = record { identifier = record { 0 = identifier }; span = Some bind.span } in
     let mid : State = found names s symbol bind.span in
@@ -391,6 +395,21 @@ declarators_sound {names} {at} {k} knows (NextInitialized there bind name type i
     (λ holds. holds.0) in
     sound_then small (IsSmallSpan at × AreSmallTrees more) small s (with_value mid (values.StoreLocal k variable p) (Some at)) u
     (λ holds. holds) (λ holds. (holds.0, (holds.1.0.1, holds.1.1.1))) first.0 (declarators_sound knows rest)
+declarators_sound {at} {k} knows (NextTakenApart there pattern init more s t u v p q is present by bound rest) =
+    let small : Type 0 = IsSmallSpan at × AreSmallTrees (Then (Node there word.Declarator (Then pattern (Then init End))) more) in
+    let part : small → IsSmallTree init = λ holds. (holds.1.0.0.1.1.0, holds.1.1.0.1.1.0) in
+    let inner = expression_sound knows by in
+    let first = pattern_sound small knows bound (λ holds. (holds.1.0.0.1.0, holds.1.1.0.1.0)) (λ holds. holds.0)
+    (place_weaker (IsSmallTree init) small t p part inner.1) in
+    sound_then small (IsSmallSpan at × AreSmallTrees more) small s u v (λ holds. holds) (λ holds. (holds.0, (holds.1.0.1, holds.1.1.1)))
+    (sound_next small s t u (sound_weaker (IsSmallTree init) small s t part inner.0) first.0) (declarators_sound knows rest)
+declarators_sound {at} {k} knows (NextUntaken there pattern more s u v q is bound rest) =
+    let small : Type 0 = IsSmallSpan at × AreSmallTrees (Then (Node there word.Declarator (Then pattern (Then Absent End))) more) in
+    let made : State = with_value s (values.Primitive primitives.Undefined) (Some at) in
+    let undefined : IsSound small s made (temporary s (Some at)) = undefined_sound small s s at (sound_refl small s) (λ holds. holds.0) in
+    let first = pattern_sound small knows bound (λ holds. (holds.1.0.0.1.0, holds.1.1.0.1.0)) (λ holds. holds.0) undefined.1 in
+    sound_then small (IsSmallSpan at × AreSmallTrees more) small s u v (λ holds. holds) (λ holds. (holds.0, (holds.1.0.1, holds.1.1.1)))
+    (sound_next small s made u undefined.0 first.0) (declarators_sound knows rest)
 
 declaring_sound : (small : Type 0) (s : State) (k : VariableKind) (at : Span) → StaysSound small s (declaring s k at)
 declaring_sound small s kinds.Var at = sound_recorded small s (refusal row.F39 at)

@@ -111,11 +111,19 @@ loaded_sound small t there {pieces} {object} {key} is all inner =
     over_sound small t t (load_of object key) there.span (places_in pieces) (sound_refl small t) all (member_places is).0
     (λ holds fits written. load_writable is there (inner holds) written) (λ holds. (inner holds).0.0)
 
+pub property_taken : (small : Type 0) (s t : State) (there : At) (value : Place) (span : Span) {w : Word} {fields parts : Pieces}
+    {pieces : List Piece} {object : Place} {key : MemberKey} → IsMember w fields parts pieces object key → StaysSound small s t
+    → All (IsSoundPlace small t) (places_in pieces) → IsSoundPlace small t value → (small → IsSmallTree (Node there w fields))
+    → (small → IsSmallSpan span)
+    → IsSound small s (with_value t (store_of object key value) (Some span)) (temporary t (Some span))
+property_taken small s t there value span {pieces} {object} {key} is before all given inner at =
+    over_sound small s t (store_of object key value) span (places_in pieces ++ value ∷ []) before
+    (All-append (IsSoundPlace small t) (places_in pieces) (value ∷ []) all (one_place small t value given)) (stored_places is value)
+    (λ holds fits written. store_writable is there value (inner holds) written) at
+
 pub property_stored : (small : Type 0) (s t : State) (there : At) (value : Place) {w : Word} {fields parts : Pieces} {pieces : List Piece}
     {object : Place} {key : MemberKey} → IsMember w fields parts pieces object key → StaysSound small s t
     → All (IsSoundPlace small t) (places_in pieces) → IsSoundPlace small t value → (small → IsSmallTree (Node there w fields))
     → IsSound small s (with_value t (store_of object key value) (Some there.span)) (temporary t (Some there.span))
-property_stored small s t there value {pieces} {object} {key} is before all given inner =
-    over_sound small s t (store_of object key value) there.span (places_in pieces ++ value ∷ []) before
-    (All-append (IsSoundPlace small t) (places_in pieces) (value ∷ []) all (one_place small t value given)) (stored_places is value)
-    (λ holds fits written. store_writable is there value (inner holds) written) (λ holds. (inner holds).0.0)
+property_stored small s t there value is before all given inner =
+    property_taken small s t there value there.span is before all given inner (λ holds. (inner holds).0.0)

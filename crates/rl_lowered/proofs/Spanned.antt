@@ -1,6 +1,6 @@
 -- Lowering a part gives no span that is none of the part's nodes or of a declaration, and its value is in a place without another.
-use Rattle.std.proofs.Common.{◌≡◌, ℕ, ◌&&◌, Bool, true, List, [], ◌∷◌, Some, None, sym, subst, Option}
-use Rattle.std.proofs.lemmas.List.Elements.{All-append}
+use Rattle.std.proofs.Common.{◌≡◌, ℕ, ◌&&◌, Bool, true, List, [], ◌∷◌, All, map, Some, None, sym, subst, Option}
+use Rattle.std.proofs.lemmas.List.Elements.{All-append, All-cons, All-head, All-nil, All-tail}
 use Rattle.std.specs.Prelude.{IfSome}
 use Rattle.rl_base.specs.declared.ids.BlockId.{BlockId}
 use Rattle.rl_base.specs.declared.ids.SymbolId.{SymbolId}
@@ -17,6 +17,7 @@ use Rattle.rl_builder.specs.Temporaries.{temporary, with_value}
 use Rattle.rl_frames.specs.Parts.{try_end}
 use Rattle.rl_frames.specs.SwitchParts.{fall_of}
 use Rattle.rl_hir.specs.declared.function.BlockKind.TheVariants as blocks
+use Rattle.rl_hir.specs.declared.function.Param.{Param}
 use Rattle.rl_hir.specs.declared.instruction.InstructionKind.{InstructionKind}
 use Rattle.rl_hir.specs.declared.instruction.InstructionKind.TheVariants as variables
 use Rattle.rl_hir.specs.declared.instruction.InstructionValue.TheVariants as values
@@ -33,27 +34,31 @@ use Rattle.rl_lowered.proofs.Catches.{catch_declared}
 use Rattle.rl_lowered.proofs.Plain.{lowered_plain, operand_span}
 use Rattle.rl_lowered.proofs.SoundForms.{form_places, method_places, object_places, stored_places}
 use Rattle.rl_lowered.proofs.SpannedForms.{cast_each, form_cast, form_each, load_spans, member_each, object_spanned, outer_spanned}
-use Rattle.rl_lowered.proofs.SpannedForms.{private_each, refusing_each, result_spanned, store_cast, update_cast, update_spanned}
+use Rattle.rl_lowered.proofs.SpannedForms.{defaulted_each, private_each, refusing_each, result_spanned, store_cast, update_cast}
 use Rattle.rl_lowered.proofs.SpannedForms.{handed_spanned, link_call_spans, link_each, link_load_spans, tested_spanned, update_spans}
-use Rattle.rl_lowered.proofs.SpannedForms.{wrapper_each}
+use Rattle.rl_lowered.proofs.SpannedForms.{update_spanned, wrapper_each}
 use Rattle.rl_lowered.proofs.SpannedFrames.{bound_spans, case_begun_spans, case_ended_spans, declared_spans, do_while_spans}
 use Rattle.rl_lowered.proofs.SpannedFrames.{for_plain_spans, for_spans, forin_spans, forof_spans, if_else_spans, if_then_spans, label_spans}
 use Rattle.rl_lowered.proofs.SpannedFrames.{logical_spans, sequence_spans, switch_spans, ternary_spans, threw_spans, throwing_spans}
-use Rattle.rl_lowered.proofs.SpannedFrames.{linked_spans, tried_spans, while_spans}
+use Rattle.rl_lowered.proofs.SpannedFrames.{default_spans, linked_spans, promoted_spans, tried_spans, while_spans}
+use Rattle.rl_lowered.proofs.SpannedItems.{IsOwned, IsSpannedLater, ahead_spans, apart_spans, items_spans, met_spans, taken_spans}
 use Rattle.rl_lowered.proofs.SpannedMoves.{found_spans, more_spanned, next_hole_spans, none_spanned, one_spanned, recorded_spans}
-use Rattle.rl_lowered.proofs.SpannedMoves.{redeclared_spans, reserved_spans, return_spans, returned_spans, span_or, type_spans, value_spans}
+use Rattle.rl_lowered.proofs.SpannedMoves.{redeclared_spans, reserved_spans, return_spans, returned_spans, span_or, temporary_spans}
+use Rattle.rl_lowered.proofs.SpannedMoves.{type_spans, value_spans}
 use Rattle.rl_lowered.specs.Forms.{Alone, Front, IsMember, MemberKey, call_of, front_places, is_property, load_of, places_in, store_of}
 use Rattle.rl_lowered.specs.Forms.{tested_front, type_of, typed}
+use Rattle.rl_lowered.specs.Items.{Later, caught, found_again, met, promoted, variable_at}
 use Rattle.rl_lowered.specs.Lowered.{Lowered, LoweredBody, LoweredCaseTest, LoweredCases, LoweredDeclarators, LoweredHead, LoweredInit}
 use Rattle.rl_lowered.specs.Lowered.{LoweredFront, LoweredLink, LoweredSpine, private_met}
-use Rattle.rl_lowered.specs.Lowered.{LoweredLast, LoweredLoop, LoweredParts, LoweredStatement, LoweredStatements, LoweredTest, caught}
-use Rattle.rl_lowered.specs.Lowered.{assigned_to, declaring, found_again, member_computed, name_computed, name_stored, part_span, throwing}
-use Rattle.rl_lowered.specs.Lowered.{update_of, value_span, variable_at}
+use Rattle.rl_lowered.specs.Lowered.{LoweredLast, LoweredLoop, LoweredParts, LoweredStatement, LoweredStatements, LoweredTest}
+use Rattle.rl_lowered.specs.Lowered.{assigned_to, declaring, member_computed, name_computed, name_stored, part_span, throwing}
+use Rattle.rl_lowered.specs.Lowered.{update_of, value_span}
+use Rattle.rl_lowered.specs.Lowered.{LoweredBound, LoweredLater, LoweredMoved, LoweredParams, LoweredPattern, LoweredTarget}
 use Rattle.rl_lowered.specs.Lowered as lowered
 use Rattle.rl_lowered.specs.Named.{found}
 use Rattle.rl_lowered.specs.Spanned.{EachSpan, EachSpanAmong, KeepsSpans}
 use Rattle.rl_model.specs.Actions.{Label}
-use Rattle.rl_model.specs.WellFormed.{case_places}
+use Rattle.rl_model.specs.WellFormed.{case_places, param_place}
 use Rattle.rl_names.specs.Names.{Names}
 use Rattle.rl_optional_frames.specs.Frames.{link_at, link_objected}
 use Rattle.rl_promises.specs.Moved.{type_name}
@@ -91,10 +96,21 @@ module _ (P : Span → Type 0) where
     place_spanned (lowered.AssignedConstant at there name right symbol identifier s t p is constant by f) each = each.1.1.0.0
     place_spanned (lowered.AssignedGlobal at there name right binding s t p is by) each = each.1.1.0.0
     place_spanned (lowered.AssignedMember at there w fields parts pieces object key right s t u p is by all) each = each.1.1.0.0
+    place_spanned (lowered.AssignedPattern at there w fields right s t u p q is by more) each =
+        target_spanned more each.1.1.0.0 (place_spanned by each.1.1.1.0) each.1.1.0
     place_spanned (lowered.CompoundMember at there w fields parts pieces object key operator applied right s t u p is applies all by) each =
         each.1.1.0.0
     place_spanned (lowered.Chain at e s t p by) each = spine_spanned by each.1.0
     place_spanned _ each = each.0
+
+    -- The place of a target is its own, or that of the value.
+    pub target_spanned : {names : Names} {at : Span} {value : Place} {e : Syntax} {s t : State} {p : Place}
+        → LoweredTarget names at value e s t p → P at → IfSome value.span P → EachSpan P e → IfSome p.span P
+    target_spanned (lowered.TargetConstant there name symbol identifier s is constant f) here given each = given
+    target_spanned (lowered.TargetLost there w fields s is) here given each = given
+    target_spanned (lowered.TargetDefaulted there w fields target default s t u q p is by rest) here given each =
+        target_spanned rest each.0 each.0 (defaulted_each P is each.1).0
+    target_spanned _ here given each = here
 
     pub spine_spanned : {names : Names} {below : Bool} {e : Syntax} {s t : State} {p : Place} → LoweredSpine names below e s t p
         → EachSpan P e → IfSome p.span P
@@ -180,13 +196,13 @@ module _ (P : Span → Type 0) where
 
   -- Stores to a variable, to a global, and to a property.
 
-  assigned_spans : (names : Names) (s : State) (symbol : SymbolId) (identifier : ℕ) (there : Span) (value : Place) (span : Span)
-      → P there → P span → IfSome value.span P
-      → KeepsSpans P s (with_value (found names s symbol there) (assigned_to identifier there value) (Some span))
-  assigned_spans names s symbol identifier there value span at here given h =
-      value_spans P (found names s symbol there) (assigned_to identifier there value) (Some span) here tt
-      (more_spanned P (variable_at identifier there) (value ∷ []) at (one_spanned P value given))
-      (found_spans P names s symbol there at h)
+  assigned_spans : (names : Names) (s : State) (symbol : SymbolId) (identifier : ℕ) (there at : Span) (value : Place) (span : Span)
+      → P there → P at → P span → IfSome value.span P
+      → KeepsSpans P s (with_value (found names s symbol there) (assigned_to identifier at value) (Some span))
+  assigned_spans names s symbol identifier there at value span there_at at_at here given h =
+      value_spans P (found names s symbol there) (assigned_to identifier at value) (Some span) here tt
+      (more_spanned P (variable_at identifier at) (value ∷ []) at_at (one_spanned P value given))
+      (found_spans P names s symbol there there_at h)
 
   stored_global_spans : (s : State) (name : List ℕ) (value : Place) (span : Span) → P span → IfSome value.span P
       → KeepsSpans P s (with_value s (values.StoreGlobal name value) (Some span))
@@ -232,6 +248,22 @@ module _ (P : Span → Type 0) where
       (more_spanned P (temporary t (Some there)) (places_in given_pieces) there_at places)))
       (between (load_spans P is t there there_at member h))
 
+  -- A target that took its piece is a node.
+
+  target_own : {names : Names} {at : Span} {value : Place} {e : Syntax} {s t : State} {p : Place} → LoweredTarget names at value e s t p
+      → EachSpan P e → P (span_of e)
+  target_own (lowered.TargetLost there w fields s is) each = each.0
+  target_own _ each = each.0
+
+  later_own : {names : Names} {later : List Later} {s t : State} → LoweredLater names later s t → All (IsOwned P) later
+  later_own (lowered.NoLater s) = All-nil (IsOwned P)
+  later_own (lowered.NextLater value part later s t u p by more) =
+      All-cons (IsOwned P) (record { value = value; part = part }) later (record { own = λ each. target_own by each }) (later_own more)
+
+  moved_spanned : {names : Names} {e : Syntax} {s t : State} {p : Place} → LoweredMoved names e s t p → EachSpan P e → IfSome p.span P
+  moved_spanned (lowered.Stays e s t p is by) each = place_spanned by each
+  moved_spanned (lowered.Moved at w fields s t p is by) each = place_spanned by each
+
   -- Expressions
 
   mutual
@@ -266,7 +298,8 @@ module _ (P : Span → Type 0) where
         update_spans P is t operator there.span each.1.1.1.0.0 (places_spanned all (member_each P is each.1.1.1.0.1))
         (all_spans all (member_each P is each.1.1.1.0.1) h)
     expression_spans {names} (lowered.AssignedVariable at there name right symbol identifier s t p is mutable by f) each h =
-        assigned_spans names t symbol identifier there.span p there.span each.1.1.0.0 each.1.1.0.0 (place_spanned by each.1.1.1.0)
+        assigned_spans names t symbol identifier there.span there.span p there.span each.1.1.0.0 each.1.1.0.0 each.1.1.0.0
+        (place_spanned by each.1.1.1.0)
         (expression_spans by each.1.1.1.0 h)
     expression_spans {names} (lowered.AssignedConstant at there name right symbol identifier s t p is constant by f) each h =
         constant_spans names t symbol there.span there.span each.1.1.0.0 each.1.1.0.0 (expression_spans by each.1.1.1.0 h)
@@ -279,14 +312,16 @@ module _ (P : Span → Type 0) where
     expression_spans (lowered.AssignedPrivate at there object name right s t u p q by inside) each h =
         undefined_spans (recorded u (refusal row.F5 at.span)) at.span each.0
         (recorded_spans P u (refusal row.F5 at.span) (expression_spans inside each.1.1.0.1.1.0 (expression_spans by each.1.1.1.0 h)))
+    expression_spans (lowered.AssignedPattern at there w fields right s t u p q is by more) each h =
+        target_spans more each.1.1.0.0 (place_spanned by each.1.1.1.0) each.1.1.0 (expression_spans by each.1.1.1.0 h)
     expression_spans {names}
         (lowered.CompoundVariable at there name operator applied right symbol identifier s t u q p is mutable applies first second f) each
         h =
         value_spans P (name_stored names u applied q p at.span there.span symbol identifier)
         (values.LoadLocal (variable_at identifier there.span)) (Some at.span) each.0 tt
         (one_spanned P (variable_at identifier there.span) each.1.1.0.0)
-        (assigned_spans names (name_computed u applied q p at.span) symbol identifier there.span (temporary u (Some at.span)) at.span
-        each.1.1.0.0 each.0 each.0
+        (assigned_spans names (name_computed u applied q p at.span) symbol identifier there.span there.span (temporary u (Some at.span))
+        at.span each.1.1.0.0 each.1.1.0.0 each.0 each.0
         (applied_spans u applied q p at.span each.0 (place_spanned first each.1.1.0) (place_spanned second each.1.1.1.0)
         (expression_spans second each.1.1.1.0 (expression_spans first each.1.1.0 h))))
     expression_spans {names}
@@ -340,6 +375,43 @@ module _ (P : Span → Type 0) where
     expression_spans (lowered.Sequence at e es s s2 p last) each h =
         sequence_spans P s s2 at.span at.span p each.0 each.0 (last_spanned last each.1.0) (last_spans last each.1.0) h
     expression_spans (lowered.Chain at e s t p by) each h = spine_spans by each.1.0 h
+
+    pub moved_spans : {names : Names} {e : Syntax} {s t : State} {p : Place} → LoweredMoved names e s t p → EachSpan P e
+        → KeepsSpans P s t
+    moved_spans (lowered.Stays e s t p is by) each h = expression_spans by each h
+    moved_spans (lowered.Moved at w fields s t p is by) each h =
+        expression_spans by each (recorded_spans P s (diagnostic_at row.F29 (type_name w) at.span) h)
+
+    pub target_spans : {names : Names} {at : Span} {value : Place} {e : Syntax} {s t : State} {p : Place}
+        → LoweredTarget names at value e s t p → P at → IfSome value.span P → EachSpan P e → KeepsSpans P s t
+    target_spans {names} {at} {value} (lowered.TargetVariable there name symbol identifier s is mutable f) here given each h =
+        assigned_spans names s symbol identifier there.span at value at each.0 here here given h
+    target_spans {names} (lowered.TargetConstant there name symbol identifier s is constant f) here given each h =
+        recorded_spans P (found names s symbol there.span) (diagnostic_at row.F6 (names.name symbol.0) there.span)
+        (found_spans P names s symbol there.span each.0 h)
+    target_spans {at} {value} (lowered.TargetGlobal there name binding s is) here given each h =
+        stored_global_spans s name value at here given h
+    target_spans {at} {value} (lowered.TargetMember there w fields parts pieces object key s t is all) here given each h =
+        stored_member_spans is t value at here given (places_spanned all (member_each P is each.1))
+        (all_spans all (member_each P is each.1) h)
+    target_spans (lowered.TargetLost there w fields s is) here given each h = recorded_spans P s (refusal (row_of_head w) there.span) h
+    target_spans {value} (lowered.TargetDefaulted there w fields target default s t u q p is by rest) here given each h =
+        let parts = defaulted_each P is each.1 in
+        target_spans rest each.0 each.0 parts.0
+        (default_spans P s t q value there.span each.0 (moved_spanned by parts.1) given (moved_spans by parts.1) h)
+    target_spans {at} {value}
+        (lowered.TargetPattern there w of_object forced es rest pattern pieces later s t u v is ahead taken are left) here given each h =
+        let inner = taken_spans P taken (later_own left) each.1.0 each.1.1.0 in
+        later_spans left inner.left
+        (apart_spans P variables.Reassign pattern of_object value at are inner here given (ahead_spans P ahead each.1.0 h))
+
+    pub later_spans : {names : Names} {later : List Later} {s t : State} → LoweredLater names later s t → All (IsSpannedLater P) later
+        → KeepsSpans P s t
+    later_spans (lowered.NoLater s) all h = h
+    later_spans (lowered.NextLater value part later s t u p by more) all h =
+        let l : Later = record { value = value; part = part } in
+        let one : IsSpannedLater P l = All-head (IsSpannedLater P) l later all in
+        later_spans more (All-tail (IsSpannedLater P) l later all) (target_spans by (target_own by one.part) one.value one.part h)
 
     pub spine_spans : {names : Names} {below : Bool} {e : Syntax} {s t : State} {p : Place} → LoweredSpine names below e s t p
         → EachSpan P e → KeepsSpans P s t
@@ -397,6 +469,78 @@ module _ (P : Span → Type 0) where
     last_spans (lowered.LastPart e s t p by) each h = expression_spans by each.0 h
     last_spans (lowered.EarlierPart e next es s t u p q first rest) each h = last_spans rest each.1 (expression_spans first each.0 h)
 
+  -- Binding patterns
+
+  pattern_own : {names : Names} {again : Bool} {k : InstructionKind} {at : Span} {value : Place} {e : Syntax} {s t : State} {p : Place}
+      → LoweredPattern names again k at value e s t p → EachSpan P e → P (span_of e)
+  pattern_own (lowered.BoundDefault there pattern default s t u q p by rest) each = each.0
+  pattern_own _ each = each.0
+
+  bound_own : {names : Names} {again : Bool} {k : InstructionKind} {later : List Later} {s t : State}
+      → LoweredBound names again k later s t → All (IsOwned P) later
+  bound_own (lowered.NothingBound s) = All-nil (IsOwned P)
+  bound_own (lowered.NextBound value part later s t u p by more) =
+      All-cons (IsOwned P) (record { value = value; part = part }) later (record { own = λ each. pattern_own by each }) (bound_own more)
+
+  -- The place of a pattern is its own.
+  pattern_spanned : {names : Names} {again : Bool} {k : InstructionKind} {at : Span} {value : Place} {e : Syntax} {s t : State} {p : Place}
+      → LoweredPattern names again k at value e s t p → P at → EachSpan P e → IfSome p.span P
+  pattern_spanned (lowered.BoundDefault there pattern default s t u q p by rest) here each = pattern_spanned rest each.0 each.1.0
+  pattern_spanned _ here each = here
+
+  mutual
+    pub pattern_spans : {names : Names} {again : Bool} {k : InstructionKind} {at : Span} {value : Place} {e : Syntax} {s t : State}
+        {p : Place} → LoweredPattern names again k at value e s t p → P at → IfSome value.span P → EachSpan P e → KeepsSpans P s t
+    pattern_spans {names} {again} {k} {at} {value} (lowered.BoundName bind name type symbol identifier s annotated is f) here given each h =
+        value_spans P (met again names s symbol identifier bind.span) (values.StoreLocal k (variable_at identifier at) value) (Some at)
+        here tt (more_spanned P (variable_at identifier at) (value ∷ []) here (one_spanned P value given))
+        (met_spans P again names s symbol identifier bind.span each.0 h)
+    pattern_spans {value} (lowered.BoundDefault there pattern default s t u q p by rest) here given each h =
+        pattern_spans rest each.0 each.0 each.1.0
+        (default_spans P s t q value there.span each.0 (moved_spanned by each.1.1.0) given (moved_spans by each.1.1.0) h)
+    pattern_spans {k} {at} {value} (lowered.BoundPattern there w of_object es rest pattern pieces later s u v is bound are left) here given
+        each h =
+        let inner = items_spans P bound (bound_own left) each.1.0 each.1.1.0 in
+        parts_spans left inner.left (apart_spans P k pattern of_object value at are inner here given h)
+
+    pub parts_spans : {names : Names} {again : Bool} {k : InstructionKind} {later : List Later} {s t : State}
+        → LoweredBound names again k later s t → All (IsSpannedLater P) later → KeepsSpans P s t
+    parts_spans (lowered.NothingBound s) all h = h
+    parts_spans (lowered.NextBound value part later s t u p by more) all h =
+        let l : Later = record { value = value; part = part } in
+        let one : IsSpannedLater P l = All-head (IsSpannedLater P) l later all in
+        parts_spans more (All-tail (IsSpannedLater P) l later all) (pattern_spans by (pattern_own by one.part) one.value one.part h)
+
+  -- Parameters
+
+  pub params_spans : {names : Names} {es : Pieces} {rest : Syntax} {s t : State} {ps : List Param} → LoweredParams names es rest s t ps
+      → EachSpanAmong P es → EachSpan P rest → KeepsSpans P s t
+  params_spans (lowered.NoParam s) each last h = h
+  params_spans (lowered.RestParam there pattern s t p by) each last h =
+      pattern_spans by last.0 last.0 last.1.0 (temporary_spans P s (Some there.span) last.0 h)
+  params_spans {names} (lowered.PlainParam there bind name type rest more symbol identifier s t ps annotated is f by) each last h =
+      params_spans by each.1 last (found_spans P names s symbol bind.span each.0.1.0.0 h)
+  params_spans (lowered.PatternParam there pattern rest more s t u p ps is by others) each last h =
+      params_spans others each.1 last
+      (pattern_spans by each.0.0 each.0.0 each.0.1.0 (promoted_spans P s there.span each.0.0 h))
+  params_spans (lowered.DefaultParam there pattern default rest more s t u v q p ps by first others) each last h =
+      params_spans others each.1 last
+      (pattern_spans first each.0.0 each.0.0 each.0.1.0
+      (default_spans P (promoted s there.span) t q (caught s there.span) there.span each.0.0 (moved_spanned by each.0.1.1.0) each.0.0
+      (moved_spans by each.0.1.1.0) (promoted_spans P s there.span each.0.0 h)))
+
+  -- Their places.
+  pub params_spanned : {names : Names} {es : Pieces} {rest : Syntax} {s t : State} {ps : List Param} → LoweredParams names es rest s t ps
+      → EachSpanAmong P es → EachSpan P rest → AreSpanned P (map param_place ps)
+  params_spanned (lowered.NoParam s) each last = none_spanned P
+  params_spanned (lowered.RestParam there pattern s t p by) each last = one_spanned P (temporary s (Some there.span)) last.0
+  params_spanned (lowered.PlainParam there bind name type rest more symbol identifier s t ps annotated is f by) each last =
+      more_spanned P (variable_at identifier bind.span) (map param_place ps) each.0.1.0.0 (params_spanned by each.1 last)
+  params_spanned (lowered.PatternParam there pattern rest more s t u p ps is by others) each last =
+      more_spanned P (caught s there.span) (map param_place ps) each.0.0 (params_spanned others each.1 last)
+  params_spanned (lowered.DefaultParam there pattern default rest more s t u v q p ps by first others) each last =
+      more_spanned P (caught s there.span) (map param_place ps) each.0.0 (params_spanned others each.1 last)
+
   -- Statements
 
   pub declarators_spans : {names : Names} {at : Span} {k : InstructionKind} {es : Pieces} {s t : State}
@@ -416,6 +560,11 @@ module _ (P : Span → Type 0) where
       (more_spanned P (record { identifier = record { 0 = identifier }; span = Some at }) (p ∷ []) here
       (one_spanned P p (place_spanned by each.0.1.1.0)))
       (found_spans P names t symbol bind.span each.0.1.0.0 (expression_spans by each.0.1.1.0 h)))
+  declarators_spans (lowered.NextTakenApart there pattern init more s t u v p q is present by bound rest) here each h =
+      declarators_spans rest here each.1
+      (pattern_spans bound here (place_spanned by each.0.1.1.0) each.0.1.0 (expression_spans by each.0.1.1.0 h))
+  declarators_spans {at} (lowered.NextUntaken there pattern more s u v q is bound rest) here each h =
+      declarators_spans rest here each.1 (pattern_spans bound here here each.0.1.0 (undefined_spans s at here h))
 
   test_spans : {names : Names} {at : Span} {e : Syntax} {s t : State} {p : Place} → LoweredTest names at e s t p → P at → EachSpan P e
       → KeepsSpans P s t
@@ -442,6 +591,8 @@ module _ (P : Span → Type 0) where
       → IfSome value.span P → EachSpan P e → IfSome p.span P
   head_spanned (lowered.ReassignedConstant at name symbol identifier s is constant f) given each = given
   head_spanned (lowered.Lost at w fields s is) given each = given
+  head_spanned (lowered.DeclaredPattern at there kind pattern s t p is by) given each = pattern_spanned by each.0 each.1.1.0.0.1.0
+  head_spanned (lowered.StoredPattern at w fields s t p is by) given each = target_spanned by each.0 given each
   head_spanned _ given each = each.0
 
   head_spans : {names : Names} {value : Place} {e : Syntax} {s t : State} {p : Place} → LoweredHead names value e s t p
@@ -455,7 +606,7 @@ module _ (P : Span → Type 0) where
       (redeclared_spans P (found names s symbol bind.span) identifier bind.span each.1.1.0.0.1.0.0
       (found_spans P names s symbol bind.span each.1.1.0.0.1.0.0 h))
   head_spans {names} {value} (lowered.Reassigned at name symbol identifier s is mutable f) given each h =
-      assigned_spans names s symbol identifier at.span value at.span each.0 each.0 given h
+      assigned_spans names s symbol identifier at.span at.span value at.span each.0 each.0 each.0 given h
   head_spans {names} (lowered.ReassignedConstant at name symbol identifier s is constant f) given each h =
       recorded_spans P (found names s symbol at.span) (diagnostic_at row.F6 (names.name symbol.0) at.span)
       (found_spans P names s symbol at.span each.0 h)
@@ -464,6 +615,8 @@ module _ (P : Span → Type 0) where
   head_spans {value} (lowered.StoredMember at w fields parts pieces object key s t is all) given each h =
       stored_member_spans is t value at.span each.0 given (places_spanned all (member_each P is each.1))
       (all_spans all (member_each P is each.1) h)
+  head_spans (lowered.DeclaredPattern at there kind pattern s t p is by) given each h = pattern_spans by each.0 given each.1.1.0.0.1.0 h
+  head_spans (lowered.StoredPattern at w fields s t p is by) given each h = target_spans by each.0 given each h
   head_spans (lowered.Lost at w fields s is) given each h = recorded_spans P s (refusal (row_of_head w) at.span) h
 
   -- Tests of cases.

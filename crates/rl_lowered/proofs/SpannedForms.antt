@@ -15,6 +15,7 @@ use Rattle.rl_hir.specs.declared.instruction.PlaceOrSpread.{PlaceOrSpread}
 use Rattle.rl_hir.specs.declared.instruction.PrimitiveValue.TheVariants as primitives
 use Rattle.rl_lowered.proofs.SoundForms.{member_places, method_places, operand_places_in, stored_places}
 use Rattle.rl_lowered.proofs.SpannedMoves.{more_spanned, none_spanned, one_spanned, value_spans}
+use Rattle.rl_lowered.specs.Forms.{DefaultName, DefaultTarget, IsDefaulted}
 use Rattle.rl_lowered.specs.Forms.{Array, Await, Binary, Call, Delete, ImportMeta, IsForm, Load, New, RegExp, Tagged, Template, Unary}
 use Rattle.rl_lowered.specs.Forms.{Around, Bare, Computed, Fixed, Indexed, IsInside, IsMember, MemberKey, Numbered, Static}
 use Rattle.rl_lowered.specs.Forms.{As, Assert, Instantiated, IsCast, IsPrivate, IsRefusing, IsWrapper, Satisfies}
@@ -79,6 +80,11 @@ module _ (P : Span → Type 0) where
   cast_each As each = (each.0, each.1.0)
   cast_each Satisfies each = (each.0, each.1.0)
   cast_each Assert each = (each.1.0, each.0)
+
+  pub defaulted_each : {w : Word} {fields : Pieces} {target default : Syntax} → IsDefaulted w fields target default
+      → EachSpanAmong P fields → EachSpan P target × EachSpan P default
+  defaulted_each (DefaultTarget whole) each = (each.0, each.1.0)
+  defaulted_each (DefaultName whole is) each = (each.0, each.1.0)
 
   pub private_each : {w : Word} {fields : Pieces} {e : Syntax} → IsPrivate w fields e → EachSpanAmong P fields → EachSpan P e
   private_each PrivateUpdate each = each.1.1.0

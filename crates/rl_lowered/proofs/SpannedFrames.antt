@@ -5,6 +5,7 @@ use Rattle.std.specs.Prelude.{IfSome, ◌≡◌, ◌++◌}
 use Rattle.std.proofs.lemmas.List.Elements.{All-push}
 use Rattle.rl_base.specs.declared.ids.BlockId.{BlockId}
 use Rattle.rl_base.specs.declared.ids.SymbolId.{SymbolId}
+use Rattle.rl_base.specs.declared.operator.BinaryOperator.TheVariants as binaries
 use Rattle.rl_base.specs.declared.operator.LogicalOperator.{LogicalOperator}
 use Rattle.rl_base.specs.declared.row.Row.TheVariants as row
 use Rattle.rl_base.specs.declared.span.Span.{Span}
@@ -40,14 +41,17 @@ use Rattle.rl_lowered.proofs.Catches.{catch_declared, declares_caught, stores_ca
 use Rattle.rl_lowered.proofs.SpannedMoves.{completed_spans, entered_spans, found_spans, last_hole_spans, more_spanned, next_hole_spans}
 use Rattle.rl_lowered.proofs.SpannedMoves.{none_spanned, one_spanned, pushed_spans, recorded_spans, reserved_spans, scopes_spans}
 use Rattle.rl_lowered.proofs.SpannedMoves.{stored_spans, temporary_spans, value_spans}
-use Rattle.rl_lowered.specs.Lowered.{catch_begun, catch_bound, caught, promoted, promoted_identifier, throwing, throwing_under}
+use Rattle.rl_lowered.specs.Items.{caught, promoted, promoted_identifier}
+use Rattle.rl_lowered.specs.Lowered.{catch_begun, catch_bound, throwing, throwing_under}
 use Rattle.rl_lowered.specs.Named.{found}
 use Rattle.rl_lowered.specs.Spanned.{HasSpans, KeepsSpans}
 use Rattle.rl_machine.specs.Machine.{default_case}
 use Rattle.rl_model.specs.Actions.{Label}
 use Rattle.rl_model.specs.WellFormed.{case_places}
 use Rattle.rl_names.specs.Names.{Names}
-use Rattle.rl_optional_frames.specs.Frames.{LinkParts, link_after, link_at, link_block, link_ended, link_objected}
+use Rattle.rl_optional_frames.specs.Frames.{LinkParts, default_at, default_ended, default_tested, link_after, link_at, link_block}
+use Rattle.rl_optional_frames.specs.Frames.{link_ended, link_objected}
+use Rattle.rl_optional_frames.specs.Parts.{compared, comparison, default_begun, default_end, default_given, default_other, default_reserved}
 use Rattle.rl_optional_frames.specs.Parts.{link_opened, link_reserved, undefined_made}
 use Rattle.rl_promises.specs.Rows.{refusal}
 use Rattle.rl_promises.specs.Spans.{AreSpanned, IsSpannedTerminal}
@@ -183,6 +187,47 @@ module _ (P : Span → Type 0) where
     where
       f : LinkParts
       f = link_at s span optional alternate
+
+  -- A default, which the value passes.
+  pub default_spans : (s s2 : State) (default value : Place) (span : Span) → P span → IfSome default.span P → IfSome value.span P
+      → KeepsSpans P (default_begun s span) s2 → KeepsSpans P s (default_ended (default_at s span value) s2 default)
+  default_spans s s2 default value span at default_place value_place hole h =
+      branched_spans met (comparison tested span) (n + 1 + 1) (default_other s2 place default span) f span (new_block f s.current.kind) at
+      at
+      (value_spans P undefined (values.BinaryExpression binaries.StrictEquality value (temporary tested (Some span))) (Some span) at tt
+      (more_spanned P value (temporary tested (Some span) ∷ []) value_place (one_spanned P (temporary tested (Some span)) at))
+      (value_spans P tested (values.Primitive primitives.Undefined) (Some span) at tt (none_spanned P)
+      (completed_spans P (last_hole (stored_in between place value span) f gotos.Break span s.current) (default_end n f span)
+      (new_block n block.Value) (record { own = at; places = none_spanned P })
+      (last_hole_spans P (stored_in between place value span) f gotos.Break span s.current at
+      (stored_spans P between place value span at value_place at
+      (next_hole_spans P (stored_in s2 place default span) f gotos.Break span block.Value at
+      (stored_spans P s2 place default span at default_place at
+      (hole
+      (entered_spans P (reserved (default_reserved s span)) (new_block (n + 1 + 1) block.Value)
+      (reserved_spans P (default_reserved s span)
+      (two_spans (with_temporary s (Some span)) (temporary_spans P s (Some span) at h))))))))))))
+    where
+      n : ℕ
+      n = s.env.next_block
+
+      f : ℕ
+      f = n + 1
+
+      place : Place
+      place = temporary s (Some span)
+
+      between : State
+      between = default_given s2 f place default span
+
+      tested : State
+      tested = default_tested (default_at s span value) s2 default
+
+      undefined : State
+      undefined = undefined_made tested span
+
+      met : State
+      met = compared tested value span
 
   -- An `if` statement
 
@@ -395,7 +440,7 @@ module _ (P : Span → Type 0) where
       (next_hole_spans P s2 behind gotos.Break part block.Block part_at
       (first (entered_spans P (reserved d) (new_block d.env.next_block block.Catch) (reserved_spans P d h))))))))
 
-  promoted_spans : (s : State) (span : Span) → P span → KeepsSpans P s (promoted s span)
+  pub promoted_spans : (s : State) (span : Span) → P span → KeepsSpans P s (promoted s span)
   promoted_spans s span at h = record {
     table = h.table;
     terminals = h.terminals;

@@ -28,7 +28,7 @@ use Rattle.rl_hir.specs.declared.terminal.GotoVariant.{GotoVariant}
 use Rattle.rl_hir.specs.declared.terminal.ReturnVariant.{ReturnVariant}
 use Rattle.rl_hir.specs.declared.terminal.Terminal.{Terminal}
 use Rattle.rl_lowered.proofs.Redeclared.{all_changed}
-use Rattle.rl_lowered.specs.Lowered.{redeclared}
+use Rattle.rl_lowered.specs.Items.{redeclared}
 use Rattle.rl_lowered.specs.Named.{found}
 use Rattle.rl_lowered.specs.Spanned.{KeepsSpans}
 use Rattle.rl_model.specs.WellFormed.{value_places}

@@ -35,25 +35,31 @@ use Rattle.rl_lowered.proofs.Blocks.{blocks_caught, case_test_blocks, cases_bloc
 use Rattle.rl_lowered.proofs.Blocks.{head_passes, init_blocks, init_passes, loop_is, statement_blocks, statements_blocks, test_blocks}
 use Rattle.rl_lowered.proofs.Blocks.{test_passes}
 use Rattle.rl_lowered.proofs.Catches.{blocks_throwing, stores_caught}
+use Rattle.rl_lowered.proofs.Clean.{declared_pattern_clean}
 use Rattle.rl_lowered.proofs.Clean.{among_clean, branches_clean_at, case_clean, constant_head_never, finalizer_never, first_none, for_clean}
 use Rattle.rl_lowered.proofs.Clean.{lost_head_never, member_head_clean, moved_never, never, rounds_clean, second_none, switch_clean}
 use Rattle.rl_lowered.proofs.Clean.{throw_clean, try_clean, while_clean}
-use Rattle.rl_lowered.proofs.HeldParts.{declared_head_held, member_held, param_held}
+use Rattle.rl_lowered.proofs.HeldItems.{declared_pattern_held, pattern_stored}
+use Rattle.rl_lowered.proofs.HeldParts.{bind_held, declared_head_held, member_held}
 use Rattle.rl_lowered.proofs.LiveFrames.{lives_left, row_lives, value_keyless}
-use Rattle.rl_lowered.proofs.Living.{all_lives, declarators_lives, declaring_lives, expression_lives, falls_same, found_lives, lives_behind}
-use Rattle.rl_lowered.proofs.Living.{lives_same}
+use Rattle.rl_lowered.proofs.Living.{all_lives, declaring_lives, expression_lives, falls_same, found_lives, lives_behind, lives_same}
+use Rattle.rl_lowered.proofs.Living.{target_lives}
+use Rattle.rl_lowered.proofs.PatternLives.{declarators_lives, pattern_lives}
 use Rattle.rl_lowered.proofs.Plain.{init_said, is_operand, lowered_plain}
+use Rattle.rl_lowered.proofs.TargetForms.{pattern_head_refuses}
 use Rattle.rl_lowered.proofs.Throws.{Throws, ThrowsIf, declarators_throw, declaring_throws, do_while_throws_by, expression_throws}
 use Rattle.rl_lowered.proofs.Throws.{for_throws, forin_throws, forof_throws, handler_kept, if_throws, label_throws, row_throws}
 use Rattle.rl_lowered.proofs.Throws.{switch_throws, throws_behind, throws_on, updated_comes, value_throws, while_throws}
 use Rattle.rl_lowered.specs.Forms.{store_of}
+use Rattle.rl_lowered.specs.Items.{caught, found_again, promoted}
+use Rattle.rl_lowered.specs.Lowered.{DeclaredPattern, StoredPattern}
 use Rattle.rl_lowered.specs.Lowered.{AwaitRefused, Block, Break, CaseMoved, CaseTested, Continue, Debugger, Declared, DeclaredInit, DoWhile}
 use Rattle.rl_lowered.specs.Lowered.{Empty, Expression, Finalized, ForIn, ForOf, ForPlain, ForUpdated, IfElse, IfThen, Labeled, LabeledLoop}
 use Rattle.rl_lowered.specs.Lowered.{Lost, LoweredBody, LoweredCaseTest, LoweredCases, LoweredHead, LoweredInit, LoweredLoop}
 use Rattle.rl_lowered.specs.Lowered.{LoweredStatement, LoweredStatements, LoweredTest, NextCase, NextStatement, NoCase, NoCaseTest, NoInit}
 use Rattle.rl_lowered.specs.Lowered.{NoStatement, NoTest, Reassigned, ReassignedConstant, RefusedInit, Return, ReturnNothing, Statements}
 use Rattle.rl_lowered.specs.Lowered.{StoredGlobal, StoredMember, Switch, Tested, Throw, TryBound, TryPlain, Uncaught, Unlabeled, Value}
-use Rattle.rl_lowered.specs.Lowered.{Variables, While, With, catch_begun, catch_bound, caught, found_again, label_part, part_span, promoted}
+use Rattle.rl_lowered.specs.Lowered.{Variables, While, With, catch_begun, catch_bound, label_part, part_span}
 use Rattle.rl_lowered.specs.Lowered.{throwing}
 use Rattle.rl_lowered.specs.Promised.{body_falls, held_by}
 use Rattle.rl_machine.specs.Machine.{Code, default_case}
@@ -101,7 +107,7 @@ jumpless falls acts s t l throws = record { lives = l; leaves = leaves_none fall
 
 -- The test of a `for` loop.
 test_lives : {names : Names} {at : Span} {e : Syntax} {s t : State} {p : Place} → LoweredTest names at e s t p → said_of_test at e ≡ []
-    → refusals names e ≡ [] → Lives held_by (held_in e) true s t
+    → refusals names e ≡ [] → Lives held_by (held_in names e) true s t
 test_lives (NoTest s) unsaid none = absurd (never unsaid)
 test_lives (Tested e s t p d) unsaid none = expression_lives d none
 
@@ -112,12 +118,12 @@ test_throws (Tested e s t p d) unsaid h on = expression_throws d h on
 
 -- The head of a loop over keys or values.
 head_lives : {names : Names} {value : Place} {e : Syntax} {s t : State} {p : Place} → LoweredHead names value e s t p
-    → refusals_at_head names e ≡ [] → Lives held_by (held_in e) true s t
+    → refusals_at_head names e ≡ [] → Lives held_by (held_in names e) true s t
 head_lives {names} {value} (Declared at there bind kind name type symbol identifier s annotated is f) none =
     let v : InstructionValue =
     values.StoreLocal variables.Let (record { identifier = record { 0 = identifier }; span = Some at.span }) value in
     let l = value_keyless held_by (found_again names s symbol identifier bind.span) v (Some at.span) in
-    lives_same (declared_head_held at there bind kind name type annotated) (record { onward = l.onward; stands = l.stands })
+    lives_same (declared_head_held names at there bind kind name type annotated) (record { onward = l.onward; stands = l.stands })
 head_lives {names} {value} (Reassigned at name symbol identifier s is mutable f) none =
     found_lives names s symbol at.span
     (values.StoreLocal variables.Reassign (record { identifier = record { 0 = identifier }; span = Some at.span }) value) (Some at.span)
@@ -126,75 +132,81 @@ head_lives {names} (ReassignedConstant at name symbol identifier s is constant f
 head_lives {value} (StoredGlobal at name binding s is) none = value_keyless held_by s (values.StoreGlobal name value) (Some at.span)
 head_lives {names} {value} (StoredMember at w fields parts pieces object key s t is d) none =
     let v : InstructionValue = store_of object key value in
-    lives_same (member_held is at)
+    lives_same (member_held names is at)
     (lives_behind s (extends_value t v (Some at.span)) (value_keyless held_by t v (Some at.span))
     (all_lives d (member_head_clean is names at none)))
+head_lives {names} (DeclaredPattern at there kind pattern s t p is d) none =
+    lives_same (declared_pattern_held names at there kind pattern)
+    (pattern_lives d (declared_pattern_clean names at there kind pattern none))
+head_lives {names} (StoredPattern at w fields s t p is d) none =
+    lives_same (sym (ap (λ (l : List Held). l ++ held_in names (Node at w fields)) (pattern_stored (Node at w fields) at.span is)))
+    (target_lives d (sym (pattern_head_refuses names at w fields is) ∙ none))
 head_lives {names} (Lost at w fields s is) none = absurd (lost_head_never names at w fields is none)
 
 -- A jump does not complete.
-jump_lives : (s : State) (target : BlockId) (variant : GotoVariant) (span : Span) (label : Label)
-    → Lives held_by (held_in (label_part label) ++ []) false s (next_hole s target.0 variant span blocks.Block)
-jump_lives s target variant span None =
+jump_lives : (names : Names) (s : State) (target : BlockId) (variant : GotoVariant) (span : Span) (label : Label)
+    → Lives held_by (held_in names (label_part label) ++ []) false s (next_hole s target.0 variant span blocks.Block)
+jump_lives names s target variant span None =
     lives_none held_by s (next_hole s target.0 variant span blocks.Block) false (λ is. absurd (cc))
-jump_lives s target variant span (Some label) =
+jump_lives names s target variant span (Some label) =
     lives_none held_by s (next_hole s target.0 variant span blocks.Block) false (λ is. absurd (cc))
 
-broken_lives : (at : At) (label : Label) (target : BlockId) (s : State) → lookup_break s.scopes label ≡ Ok target
-    → LivesWith (live_in None (Node at word.Break (Then (label_part label) End)))
+broken_lives : (names : Names) (at : At) (label : Label) (target : BlockId) (s : State) → lookup_break s.scopes label ≡ Ok target
+    → LivesWith (live_in names None (Node at word.Break (Then (label_part label) End)))
     (lives None (Node at word.Break (Then (label_part label) End))).outs
     (lives None (Node at word.Break (Then (label_part label) End))).acts s (next_hole s target.0 gotos.Break at.span blocks.Block)
-broken_lives at None target s is = record {
-  lives = jump_lives s target gotos.Break at.span None;
+broken_lives names at None target s is = record {
+  lives = jump_lives names s target gotos.Break at.span None;
   leaves = leaves_broken s None target at.span blocks.Block is;
   throws = never_throws s (next_hole s target.0 gotos.Break at.span blocks.Block);
 }
-broken_lives at (Some label) target s is = record {
-  lives = jump_lives s target gotos.Break at.span (Some label);
+broken_lives names at (Some label) target s is = record {
+  lives = jump_lives names s target gotos.Break at.span (Some label);
   leaves = leaves_broken s (Some label) target at.span blocks.Block is;
   throws = never_throws s (next_hole s target.0 gotos.Break at.span blocks.Block);
 }
 
-continued_lives : (at : At) (label : Label) (target : BlockId) (s : State) → lookup_continue s.scopes label ≡ Ok target
-    → LivesWith (live_in None (Node at word.Continue (Then (label_part label) End)))
+continued_lives : (names : Names) (at : At) (label : Label) (target : BlockId) (s : State) → lookup_continue s.scopes label ≡ Ok target
+    → LivesWith (live_in names None (Node at word.Continue (Then (label_part label) End)))
     (lives None (Node at word.Continue (Then (label_part label) End))).outs
     (lives None (Node at word.Continue (Then (label_part label) End))).acts s (next_hole s target.0 gotos.Continue at.span blocks.Block)
-continued_lives at None target s is = record {
-  lives = jump_lives s target gotos.Continue at.span None;
+continued_lives names at None target s is = record {
+  lives = jump_lives names s target gotos.Continue at.span None;
   leaves = leaves_continued s None target at.span blocks.Block is;
   throws = never_throws s (next_hole s target.0 gotos.Continue at.span blocks.Block);
 }
-continued_lives at (Some label) target s is = record {
-  lives = jump_lives s target gotos.Continue at.span (Some label);
+continued_lives names at (Some label) target s is = record {
+  lives = jump_lives names s target gotos.Continue at.span (Some label);
   leaves = leaves_continued s (Some label) target at.span blocks.Block is;
   throws = never_throws s (next_hole s target.0 gotos.Continue at.span blocks.Block);
 }
 
 -- A label in front of a statement that is no loop is not its own.
 
-abbrev LivesAlike : (own : Label) → Syntax → Type 0
-LivesAlike own e =
-    (live_in own e ≡ live_in None e) × ((lives own e).outs ≡ (lives None e).outs) × ((lives own e).acts ≡ (lives None e).acts)
+abbrev LivesAlike : Names → (own : Label) → Syntax → Type 0
+LivesAlike names own e =
+    (live_in names own e ≡ live_in names None e) × ((lives own e).outs ≡ (lives None e).outs) × ((lives own e).acts ≡ (lives None e).acts)
 
-jump_alike : (own label : Label) (at : At)
-    → LivesAlike own (Node at word.Break (Then (label_part label) End))
-    × LivesAlike own (Node at word.Continue (Then (label_part label) End))
-jump_alike own None at = ((refl, refl, refl), (refl, refl, refl))
-jump_alike own (Some label) at = ((refl, refl, refl), (refl, refl, refl))
+jump_alike : (names : Names) (own label : Label) (at : At)
+    → LivesAlike names own (Node at word.Break (Then (label_part label) End))
+    × LivesAlike names own (Node at word.Continue (Then (label_part label) End))
+jump_alike names own None at = ((refl, refl, refl), (refl, refl, refl))
+jump_alike names own (Some label) at = ((refl, refl, refl), (refl, refl, refl))
 
 unowned_lives : {names : Names} {e : Syntax} {s t : State} → LoweredStatement names e s t → is_loop e ≡ false → (own : Label)
-    → LivesAlike own e
+    → LivesAlike names own e
 unowned_lives (Unlabeled loop s t d) other own = let never : false ≡ true = sym other ∙ loop_is d in absurd (cc)
-unowned_lives (Break at label target s is) other own = (jump_alike own label at).0
-unowned_lives (Continue at label target s is) other own = (jump_alike own label at).1
+unowned_lives {names} (Break at label target s is) other own = (jump_alike names own label at).0
+unowned_lives {names} (Continue at label target s is) other own = (jump_alike names own label at).1
 unowned_lives _ other own = (refl, refl, refl)
 
-alike_lives : (e : Syntax) {s t : State} (own : Label) → LivesAlike own e
-    → LivesWith (live_in None e) (lives None e).outs (lives None e).acts s t
-    → LivesWith (live_in own e) (lives own e).outs (lives own e).acts s t
-alike_lives e {s} {t} own alike l =
+alike_lives : (names : Names) (e : Syntax) {s t : State} (own : Label) → LivesAlike names own e
+    → LivesWith (live_in names None e) (lives None e).outs (lives None e).acts s t
+    → LivesWith (live_in names own e) (lives own e).outs (lives own e).acts s t
+alike_lives names e {s} {t} own alike l =
     subst (λ (live : List Held). LivesWith live (lives own e).outs (lives own e).acts s t) (sym alike.0)
-    (subst (λ (outs : Outs). LivesWith (live_in None e) outs (lives own e).acts s t) (sym alike.1)
-    (subst (λ (acts : Bool). LivesWith (live_in None e) (lives None e).outs acts s t) (sym alike.2) l))
+    (subst (λ (outs : Outs). LivesWith (live_in names None e) outs (lives own e).acts s t) (sym alike.1)
+    (subst (λ (acts : Bool). LivesWith (live_in names None e) (lives None e).outs acts s t) (sym alike.2) l))
 
 -- A loop whose test is in front may complete.
 under_true : (own : Label) (body : Outs) → (outs_by own (loop_outs own true body)).falls ≡ true
@@ -237,16 +249,16 @@ cases_same {live} {others} {outs} {other} {s} {ks} {t} is same l =
 
 -- The test of a case.
 case_test_lives : {names : Names} {e : Syntax} {s t : State} {p : Option Place} → LoweredCaseTest names e s t p
-    → said_of_moved names e ≡ [] → refusals names e ≡ [] → Lives held_by (held_in e) true s t
+    → said_of_moved names e ≡ [] → refusals names e ≡ [] → Lives held_by (held_in names e) true s t
 case_test_lives (NoCaseTest s) unsaid none = lives_refl held_by s
 case_test_lives (CaseTested e s t p is d) unsaid none = expression_lives d none
 case_test_lives {names} (CaseMoved at w fields s t p is d) unsaid none = absurd (moved_never names at w fields is unsaid)
 
 -- A handler behind the parameter of its `catch`.
-bound_lives : {live : List Held} {outs : Outs} {acts : Bool} {s t u : State} (param : Syntax) → Extends s t → Extends t u
-    → Lives held_by (held_in param) true s t → LivesWith live outs acts t u → LivesWith (held_in param ++ live) outs acts s u
-bound_lives {live} {outs} {acts} {s} {t} {u} param g g2 first l = record {
-  lives = lives_then held_by s t u (held_in param) live true outs.falls g2 refl first l.lives;
+bound_lives : (names : Names) {live : List Held} {outs : Outs} {acts : Bool} {s t u : State} (param : Syntax) → Extends s t → Extends t u
+    → Lives held_by (held_in names param) true s t → LivesWith live outs acts t u → LivesWith (held_in names param ++ live) outs acts s u
+bound_lives names {live} {outs} {acts} {s} {t} {u} param g g2 first l = record {
+  lives = lives_then held_by s t u (held_in names param) live true outs.falls g2 refl first l.lives;
   leaves = leaves_behind outs s t u g2 g.scopes (first.onward refl) l.leaves;
   throws = λ is h on. throws_behind h s g2 (first.onward refl) (l.throws is h (handler_kept h g on));
 }
@@ -319,17 +331,17 @@ module _ (s s2 s4 : State) (binding : Option Place) (span part other : Span) (bh
 
 mutual
   pub statement_lives : {names : Names} {e : Syntax} {s t : State} → LoweredStatement names e s t → (tried : Bool)
-      → refusals_at names tried e ≡ [] → LivesWith (live_in None e) (lives None e).outs (lives None e).acts s t
+      → refusals_at names tried e ≡ [] → LivesWith (live_in names None e) (lives None e).outs (lives None e).acts s t
   statement_lives (Empty at s) tried none = jumpless true false s s (lives_refl held_by s) (never_throws s s)
   statement_lives {names} (Expression at e s t p d) tried none =
-      jumpless true true s t (lives_same (append-nil (held_in e)) (expression_lives d (first_none (refusals names e) [] none)))
+      jumpless true true s t (lives_same (append-nil (held_in names e)) (expression_lives d (first_none (refusals names e) [] none)))
       (λ acts h on. expression_throws d h on)
   statement_lives (Debugger at s) tried none =
       jumpless true true s _ (value_keyless held_by s values.Debugger (Some at.span))
       (λ acts h on. value_throws h s values.Debugger (Some at.span) on)
   statement_lives {names} (Variables at k declarators s t d) tried none =
       jumpless true (declares (Then (Said (variable_text k)) (Then (Listed declarators) End))) s t
-      (lives_same (append-nil (held_among declarators))
+      (lives_same (append-nil (held_among names declarators))
       (declaring_lives s t k at.span (declarators_lives d (second_none _ (refusals_in names declarators) none))))
       (λ acts h on. declaring_throws h s t k at.span (λ there. declarators_throw d (Said (variable_text k)) acts h there) on)
   statement_lives (ReturnNothing at s) tried none =
@@ -341,7 +353,7 @@ mutual
       (value_throws h s (values.Primitive primitives.Undefined) None on))
   statement_lives {names} (Return at e s t p d) tried none =
       jumpless false true s _
-      (lives_same (append-nil (held_in e))
+      (lives_same (append-nil (held_in names e))
       (lives_left held_by s (extends_returned t (Some at.span) returns.Explicit p blocks.Block)
       (expression_lives d (first_none (refusals names e) [] none))))
       (λ acts h on. throws_on h s (extends_returned t (Some at.span) returns.Explicit p blocks.Block) (expression_throws d h on))
@@ -352,8 +364,8 @@ mutual
       let c = statement_lives dc tried clean.0 in
       let outs : Outs = (lives None consequent).outs in record {
         lives = falls_same (or_true outs.falls)
-            (lives_same (append-nil (held_in test ++ live_in None consequent))
-            (if_then_lives held_by s s2 s3 p at.span (span_of consequent) (held_in test) (live_in None consequent) outs.falls
+            (lives_same (append-nil (held_in names test ++ live_in names None consequent))
+            (if_then_lives held_by s s2 s3 p at.span (span_of consequent) (held_in names test) (live_in names None consequent) outs.falls
             (expression_blocks dt).extends c.lives (expression_lives dt clean.2)));
         leaves = if_then_leaves s s2 s3 p at.span (span_of consequent) outs (expression_blocks dt).extends (expression_passes dt) c.leaves;
         throws = λ acts h on.
@@ -366,9 +378,10 @@ mutual
       let a = statement_lives da tried clean.1 in
       let first : Outs = (lives None consequent).outs in
       let second : Outs = (lives None alternate).outs in record {
-        lives = lives_same (append_assoc (held_in test) (live_in None consequent) (live_in None alternate))
-            (if_lives held_by s s2 s3 s4 p at.span (span_of consequent) (span_of alternate) (held_in test) (live_in None consequent)
-            (live_in None alternate) first.falls second.falls
+        lives = lives_same (append_assoc (held_in names test) (live_in names None consequent) (live_in names None alternate))
+            (if_lives held_by s s2 s3 s4 p at.span (span_of consequent) (span_of alternate) (held_in names test)
+            (live_in names None consequent)
+            (live_in names None alternate) first.falls second.falls
             (statement_blocks dc).extends (statement_blocks da).extends (expression_blocks dt).extends c.lives a.lives
             (expression_lives dt clean.2));
         leaves = if_leaves s s2 s3 s4 p at.span (span_of consequent) (span_of alternate)
@@ -382,28 +395,28 @@ mutual
   statement_lives (Unlabeled loop s t d) tried none = loop_lives d tried none
   statement_lives {names} (LabeledLoop at label loop s t d) tried none = loop_lives d tried none
   statement_lives {names} (Labeled at label body s s2 other d) tried none =
-      let l = alike_lives body (Some label) (unowned_lives d other (Some label))
+      let l = alike_lives names body (Some label) (unowned_lives d other (Some label))
       (statement_lives d tried none) in
       let outs : Outs = (lives (Some label) body).outs in record {
-        lives = label_lives s s2 label at.span (span_of body) (statement_blocks d) held_by (live_in (Some label) body) outs l.lives
+        lives = label_lives s s2 label at.span (span_of body) (statement_blocks d) held_by (live_in names (Some label) body) outs l.lives
             l.leaves;
         leaves = label_leaves s s2 label at.span (span_of body) (statement_blocks d) outs l.leaves;
         throws = λ acts h on. label_throws h s s2 label at.span (span_of body) (l.throws acts h on);
       }
-  statement_lives (Break at label target s is) tried none = broken_lives at label target s is
-  statement_lives (Continue at label target s is) tried none = continued_lives at label target s is
+  statement_lives {names} (Break at label target s is) tried none = broken_lives names at label target s is
+  statement_lives {names} (Continue at label target s is) tried none = continued_lives names at label target s is
   statement_lives {names} (Throw at e s t p d) tried none =
       let g = extends_then (blocks_throwing t at.span).extends (extends_threw (throwing t at.span) at.span p blocks.Block) in
       jumpless false true s _
-      (lives_same (append-nil (held_in e)) (lives_left held_by s g (expression_lives d (throw_clean names tried at.span e none).0)))
+      (lives_same (append-nil (held_in names e)) (lives_left held_by s g (expression_lives d (throw_clean names tried at.span e none).0)))
       (λ acts h on. throws_on h s g (expression_throws d h on))
   statement_lives {names} (Switch at value cases ks s t u p all d) tried none =
       let clean = switch_clean names tried value cases none in
       let outs : Outs = (lives_cases cases).outs in
-      let live : List Held = held_in value ++ live_cases cases in
-      let before : LivesCases held_by (live_cases cases) outs None s ks t = cases_live all tried clean.0 in
+      let live : List Held = held_in names value ++ live_cases names cases in
+      let before : LivesCases held_by (live_cases names cases) outs None s ks t = cases_live all tried clean.0 in
       let l : LivesCases held_by live outs None s ks u =
-      lives_in_front held_by None s t u ks (live_cases cases) (held_in value) outs (expression_blocks d).extends
+      lives_in_front held_by None s t u ks (live_cases names cases) (held_in names value) outs (expression_blocks d).extends
       (expression_lives d clean.1) before in
       let ended : State = switch_finished u s.env.next_block ks p at.span in record {
         lives = falls_same (ap (λ (b : Bool). (switch_outs b outs).falls) (cases_default all))
@@ -417,7 +430,7 @@ mutual
   statement_lives {names} (TryPlain at there block body s s2 s3 first second) tried none =
       let clean = try_clean names tried Absent body block none in
       tried_lives s s2 s3 None at.span there.span (span_of block) (statement_blocks first) (statement_blocks second)
-      (live_in None block) (live_in None body) (lives None block) (lives None body) (statement_lives second true clean.2)
+      (live_in names None block) (live_in names None body) (lives None block) (lives None body) (statement_lives second true clean.2)
       (statement_lives first tried clean.1)
   statement_lives {names} (TryBound at there bind name type block body symbol identifier s s2 s3 annotated is f first second) tried none =
       let param : Syntax = Node bind word.Bind (Then (Said name) (Then type End)) in
@@ -426,10 +439,10 @@ mutual
       let bound : State = catch_bound names s symbol identifier bind.span in
       let l = tried_lives (promoted s bind.span) s2 s3 (Some (caught s bind.span)) at.span there.span (span_of block)
       (blocks_then begun bound s2 (blocks_caught names s symbol identifier bind.span f) (statement_blocks first)) (statement_blocks second)
-      (live_in None block) (held_in param ++ live_in None body) (lives None block) (lives None body)
+      (live_in names None block) (held_in names param ++ live_in names None body) (lives None block) (lives None body)
       (statement_lives second true clean.2)
-      (bound_lives param (blocks_caught names s symbol identifier bind.span f).extends (statement_blocks first).extends
-      (lives_same (param_held bind name type annotated)
+      (bound_lives names param (blocks_caught names s symbol identifier bind.span f).extends (statement_blocks first).extends
+      (lives_same (bind_held names bind name type annotated)
       (found_lives names begun symbol bind.span (stores_caught s identifier bind.span) (Some bind.span)))
       (statement_lives first tried clean.1)) in record {
         lives = record { onward = l.lives.onward; stands = l.lives.stands };
@@ -442,31 +455,32 @@ mutual
   statement_lives (With at fields s) tried none = absurd (never none)
 
   cases_live : {names : Names} {s : State} {es : Pieces} {ks : List Case} {t : State} → LoweredCases names s es ks t → (tried : Bool)
-      → refusals_in_cases names tried es ≡ [] → LivesCases held_by (live_cases es) (lives_cases es).outs None s ks t
+      → refusals_in_cases names tried es ≡ [] → LivesCases held_by (live_cases names es) (lives_cases es).outs None s ks t
   cases_live (NoCase s) tried none = switch_begun_lives held_by None s
   cases_live {names} (NextCase at test statements cases ks s x y z p all d tested) tried none =
       let clean = case_clean names tried test statements cases none in
       let own = statements_lives d tried clean.body in
       let k : Case = record { test = p; block = block_id x.env.next_block } in
       let outs : Outs = outs_before (lives_all statements).outs ks (lives_cases cases).outs in
-      let more : LivesCases held_by (live_all statements ++ live_cases cases) outs None s (k ∷ ks)
+      let more : LivesCases held_by (live_all names statements ++ live_cases names cases) outs None s (k ∷ ks)
       (case_ended y (fall_of s.env.next_block ks) x.current at.span) =
-      lives_more held_by None s x y ks at.span p (cases_blocks all).extends (statements_blocks d).extends (live_cases cases)
-      (live_all statements) (lives_all statements).outs (lives_cases cases).outs own.lives own.leaves
+      lives_more held_by None s x y ks at.span p (cases_blocks all).extends (statements_blocks d).extends (live_cases names cases)
+      (live_all names statements) (lives_all statements).outs (lives_cases cases).outs own.lives own.leaves
       (cases_live all tried clean.behind) in
-      cases_same (append_assoc (held_in test) (live_all statements) (live_cases cases)) (cases_outs all at test statements)
+      cases_same (append_assoc (held_in names test) (live_all names statements) (live_cases names cases))
+      (cases_outs all at test statements)
       (lives_in_front held_by None s (case_ended y (fall_of s.env.next_block ks) x.current at.span) z (k ∷ ks)
-      (live_all statements ++ live_cases cases) (held_in test) outs (case_test_blocks tested).extends
+      (live_all names statements ++ live_cases names cases) (held_in names test) outs (case_test_blocks tested).extends
       (case_test_lives tested clean.moved clean.condition) more)
 
   pub loop_lives : {names : Names} {own : Label} {e : Syntax} {s t : State} → LoweredLoop names own e s t → (tried : Bool)
-      → refusals_at names tried e ≡ [] → LivesWith (live_in own e) (outs_by own (lives own e).outs) (lives own e).acts s t
+      → refusals_at names tried e ≡ [] → LivesWith (live_in names own e) (outs_by own (lives own e).outs) (lives own e).acts s t
   loop_lives {names} {own} (While at test body s s2 s3 p d dt) tried none =
       let clean = while_clean names tried test body none in
       let l = statement_lives d tried clean.0 in
       let outs : Outs = (lives None body).outs in record {
         lives = falls_same (under_true own outs)
-            (while_lives held_by s s2 s3 own p at.span (span_of body) (held_in test) (live_in None body) outs.falls
+            (while_lives held_by s s2 s3 own p at.span (span_of body) (held_in names test) (live_in names None body) outs.falls
             (statement_blocks d).extends (expression_blocks dt).extends l.lives (expression_lives dt clean.1));
         leaves = while_leaves s s2 s3 own p at.span (span_of body) outs (expression_blocks dt).extends (expression_passes dt)
             l.leaves;
@@ -478,8 +492,9 @@ mutual
       let clean = while_clean names tried test body none in
       let l = statement_lives d tried clean.0 in
       let outs : Outs = (lives None body).outs in record {
-        lives = do_while_lives held_by s s2 s3 own p at.span (span_of body) outs (expression_blocks dt).extends l.leaves (held_in test)
-            (live_in None body) l.lives (expression_lives dt clean.1);
+        lives = do_while_lives held_by s s2 s3 own p at.span (span_of body) outs (expression_blocks dt).extends l.leaves
+            (held_in names test)
+            (live_in names None body) l.lives (expression_lives dt clean.1);
         leaves = do_while_leaves s s2 s3 own p at.span (span_of body) outs (expression_blocks dt).extends l.leaves
             (goes_on own outs || is_broken outs);
         throws = λ acts h on.
@@ -494,7 +509,8 @@ mutual
         lives = falls_same (under_true own outs)
             (for_lives s s2 s3 s4 s5 own p at.span (part_span at.span init) (span_of update) (span_of body) outs (init_blocks di).extends
             (expression_blocks du).extends (statement_blocks d).extends (test_blocks dt).extends (init_passes di) (test_passes dt) l.leaves
-            held_by (held_in init) (held_in test) (held_in update) (live_in None body) (init_lives di clean.init_said clean.init)
+            held_by (held_in names init) (held_in names test) (held_in names update) (live_in names None body)
+            (init_lives di clean.init_said clean.init)
             (expression_lives du clean.update) l.lives (test_lives dt clean.test_said clean.test));
         leaves = for_leaves s s2 s3 s4 s5 own p at.span (part_span at.span init) (span_of update) (span_of body) outs
             (init_blocks di).extends (expression_blocks du).extends (statement_blocks d).extends (test_blocks dt).extends (init_passes di)
@@ -514,8 +530,9 @@ mutual
       let outs : Outs = (lives None body).outs in record {
         lives = falls_same (under_true own outs)
             (for_lives_plain s s2 s3 s4 own p at.span (part_span at.span init) (span_of body) outs (init_blocks di).extends
-            (statement_blocks d).extends (test_blocks dt).extends (init_passes di) (test_passes dt) held_by (held_in init) (held_in test)
-            (live_in None body) (init_lives di clean.init_said clean.init) l.lives (test_lives dt clean.test_said clean.test));
+            (statement_blocks d).extends (test_blocks dt).extends (init_passes di) (test_passes dt) held_by (held_in names init)
+            (held_in names test)
+            (live_in names None body) (init_lives di clean.init_said clean.init) l.lives (test_lives dt clean.test_said clean.test));
         leaves = for_leaves_plain s s2 s3 s4 own p at.span (part_span at.span init) (span_of body) outs (init_blocks di).extends
             (statement_blocks d).extends (test_blocks dt).extends (init_passes di) (test_passes dt) l.leaves;
         throws = λ acts h on.
@@ -531,7 +548,8 @@ mutual
       let outs : Outs = (lives None body).outs in record {
         lives = falls_same (under_true own outs)
             (forin_lives s s2 s3 s4 own collection p at.span (span_of head) (span_of body) (expression_blocks dr).extends
-            (head_blocks dp).extends (expression_passes dr) (head_passes dp) held_by (held_in head) (held_in right) (live_in None body)
+            (head_blocks dp).extends (expression_passes dr) (head_passes dp) held_by (held_in names head) (held_in names right)
+            (live_in names None body)
             outs.falls l.lives (expression_lives dr clean.1) (head_lives dp clean.2));
         leaves = forin_leaves s s2 s3 s4 own collection p at.span (span_of head) (span_of body) (expression_blocks dr).extends
             (head_blocks dp).extends (expression_passes dr) (head_passes dp) outs l.leaves;
@@ -545,7 +563,8 @@ mutual
       let outs : Outs = (lives None body).outs in record {
         lives = falls_same (under_true own outs)
             (forof_lives s s2 s3 s4 own collection p at.span (span_of head) (span_of body) (expression_blocks dr).extends
-            (head_blocks dp).extends (expression_passes dr) (head_passes dp) held_by (held_in head) (held_in right) (live_in None body)
+            (head_blocks dp).extends (expression_passes dr) (head_passes dp) held_by (held_in names head) (held_in names right)
+            (live_in names None body)
             outs.falls l.lives (expression_lives dr clean.1) (head_lives dp clean.2));
         leaves = forof_leaves s s2 s3 s4 own collection p at.span (span_of head) (span_of body) (expression_blocks dr).extends
             (head_blocks dp).extends (expression_passes dr) (head_passes dp) outs l.leaves;
@@ -556,19 +575,19 @@ mutual
   loop_lives (AwaitRefused at head right body s) tried none = absurd (never none)
 
   init_lives : {names : Names} {at : Span} {e : Syntax} {s t : State} → LoweredInit names at e s t → said_of_init at e ≡ []
-      → refusals names e ≡ [] → Lives held_by (held_in e) true s t
+      → refusals names e ≡ [] → Lives held_by (held_in names e) true s t
   init_lives {at} (NoInit s) unsaid none = value_keyless held_by s (values.Primitive primitives.Undefined) (Some at)
   init_lives (DeclaredInit there fields s t d) unsaid none = (statement_lives d false none).lives
   init_lives {at} (RefusedInit e s t p d) unsaid none = absurd (never (sym (init_said e (lowered_plain d).node at) ∙ unsaid))
 
   pub statements_lives : {names : Names} {es : Pieces} {s t : State} → LoweredStatements names es s t → (tried : Bool)
-      → refusals_among names tried es ≡ [] → LivesWith (live_all es) (lives_all es).outs (lives_all es).acts s t
+      → refusals_among names tried es ≡ [] → LivesWith (live_all names es) (lives_all es).outs (lives_all es).acts s t
   statements_lives (NoStatement s) tried none = jumpless true false s s (lives_refl held_by s) (never_throws s s)
   statements_lives {names} (NextStatement e es s t u d ds) tried none =
       let clean = among_clean names tried e es none in
       let l = statement_lives d tried clean.0 in
       let m = statements_lives ds tried clean.1 in record {
-        lives = row_lives held_by (lives None e).outs (lives_all es).outs (live_in None e) (live_all es) s t u
+        lives = row_lives held_by (lives None e).outs (lives_all es).outs (live_in names None e) (live_all names es) s t u
             (statements_blocks ds).extends l.lives m.lives;
         leaves = leaves_row (lives None e).outs (lives_all es).outs s t u (statement_blocks d).extends (statements_blocks ds).extends
             l.lives.onward l.leaves m.leaves;
@@ -577,14 +596,14 @@ mutual
       }
 
 pub body_lives : {names : Names} {b : Syntax} {s t : State} → LoweredBody names b s t → refusals_in_body names b ≡ []
-    → Lives held_by (live_in_body b) (body_falls b) s t
+    → Lives held_by (live_in_body names b) (body_falls b) s t
 body_lives {names} (Statements at directives statements s t texts d) none =
     (statements_lives d false none).lives
 body_lives {names} (Value e s t p d) none =
     let last : State = completed_by t (return_of None returns.Implicit p) (new_block s.env.next_block blocks.Block) in
-    let l : Lives held_by (held_in e) false (reserved s) last =
+    let l : Lives held_by (held_in names e) false (reserved s) last =
     lives_left held_by (reserved s)
     (extends_completed t (return_of None returns.Implicit p) (new_block s.env.next_block blocks.Block) (λ none. refl))
     (expression_lives d (sym ((lowered_plain d).refused names) ∙ none)) in
-    let m : Lives held_by (held_in e) false s last = record { onward = l.onward; stands = l.stands } in
-    lives_same (sym (lowered_plain d).alone) (falls_same (lowered_plain d).ends m)
+    let m : Lives held_by (held_in names e) false s last = record { onward = l.onward; stands = l.stands } in
+    lives_same (sym ((lowered_plain d).alone names)) (falls_same (lowered_plain d).ends m)

@@ -30,12 +30,15 @@ use Rattle.rl_hir.specs.declared.terminal.GotoVariant.{GotoVariant}
 use Rattle.rl_hir.specs.declared.terminal.GotoVariant.TheVariants as gotos
 use Rattle.rl_hir.specs.declared.terminal.Terminal.{Terminal}
 use Rattle.rl_lowered.proofs.ChainFrames.{linked_state}
+use Rattle.rl_lowered.proofs.ItemBlocks.{Stays}
 use Rattle.rl_lowered.specs.Steps.{KeepsStepsApart}
 use Rattle.rl_machine.specs.Acts.{act, declared}
 use Rattle.rl_machine.specs.Prunes.{IsStep, ReadsNote}
 use Rattle.rl_machine.specs.Traces.{Store}
-use Rattle.rl_optional_frames.specs.Frames.{link_at, link_objected}
-use Rattle.rl_optional_frames.specs.Parts.{link_opened}
+use Rattle.rl_base.specs.declared.operator.BinaryOperator.TheVariants as operator
+use Rattle.rl_optional_frames.specs.Frames.{default_at, default_ended, default_tested, link_at, link_objected}
+use Rattle.rl_optional_frames.specs.Parts.{compared, comparison, default_begun, default_end, default_given, default_other, default_reserved}
+use Rattle.rl_optional_frames.specs.Parts.{link_opened, undefined_made}
 use Rattle.rl_runs.proofs.Moves.{extends_pushed}
 use Rattle.rl_runs.proofs.Naming.{named_none}
 use Rattle.rl_runs.proofs.ReadNotes.{marked_ended}
@@ -443,3 +446,38 @@ apart_link None s s2 s4 span optional object value o k =
     (apart_then y x _ (early_from s span)
     (link_from x s2 s4 optional s.env.next_block (s.env.next_block + 1) (s.env.next_block + 1 + 1) s.current.kind span object
     (temporary s (Some span)) value o k))
+
+-- The moves of the items of a pattern.
+pub apart_stays : {s t : State} → Stays s t → KeepsStepsApart s t
+apart_stays {s} {t} a = apart_same s t a.completed a.current a.table (omega (arith, a.numbered))
+
+-- A default.
+pub apart_default : (s s2 : State) (default value : Place) (span : Span) → KeepsStepsApart (default_begun s span) s2
+    → KeepsStepsApart s (default_ended (default_at s span value) s2 default)
+apart_default s s2 default value span k =
+    let n : ℕ = s.env.next_block in
+    let f : ℕ = n + 1 in
+    let place : Place = temporary s (Some span) in
+    let numbered : State = reserved (default_reserved s span) in
+    let begun : State = default_begun s span in
+    let valued : State = stored_in s2 place default span in
+    let between : State = default_given s2 f place default span in
+    let other : State = stored_in between place value span in
+    let gone : State = last_hole other f gotos.Break span s.current in
+    let tested : State = default_tested (default_at s span value) s2 default in
+    let made : State = undefined_made tested span in
+    let met : State = compared tested value span in
+    let inside : KeepsStepsApart begun other =
+    apart_then begun s2 _ k
+    (apart_then s2 valued _ (apart_stored s2 place default span)
+    (apart_then valued between _ (apart_next valued f gotos.Break span blocks.Value) (apart_stored between place value span))) in
+    apart_then s numbered _ (apart_same s numbered refl refl refl (omega arith))
+    (apart_then numbered gone _
+    (apart_hole numbered other (new_block (n + 1 + 1) blocks.Value) s.scopes other.scopes other.handlers (goto f gotos.Break span) refl refl
+    inside)
+    (apart_then gone tested _ (apart_ended gone (default_end n f span) (new_block n blocks.Value) refl refl)
+    (apart_then tested made _ (apart_value tested (values.Primitive primitives.Undefined) (Some span) refl)
+    (apart_then made met _
+    (apart_value made (values.BinaryExpression operator.StrictEquality value (temporary tested (Some span))) (Some span) refl)
+    (apart_ended met (branch (comparison tested span) (n + 1 + 1) (default_other s2 place default span) f span)
+    (new_block f s.current.kind) refl refl)))))

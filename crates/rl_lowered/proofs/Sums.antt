@@ -19,8 +19,9 @@ added_declared a b n is = omega (arith, is)
 pub added_row : (a b c n m : ℕ) → b ≡ a + n → c ≡ b + m → c ≡ a + (n + m)
 added_row a b c n m first second = omega (arith, first, second)
 
-pub added_asked : (a b c fields parts own one : ℕ) → fields ≡ parts → one ≡ own → b ≡ a + parts → c ≡ b + one → c ≡ a + (own + fields)
-added_asked a b c fields parts own one same is first second = omega (arith, same, is, first, second)
+pub added_form : (a b c fields parts own one stores : ℕ) → fields ≡ parts → one ≡ own → stores ≡ 0 → b ≡ a + parts → c ≡ b + one
+    → c ≡ a + ((own + stores) + fields)
+added_form a b c fields parts own one stores same is none first second = omega (arith, same, is, none, first, second)
 
 pub added_same : (a b n m : ℕ) → m ≡ n → b ≡ a + n → b ≡ a + m
 added_same a b n m same is = omega (arith, same, is)
@@ -92,11 +93,11 @@ added_plain_for a b c d init test body p q r = omega (arith, p, q, r)
 -- The store of a head counts with its loop.
 
 pub added_rounds : (a b c d e own head right body : ℕ) → b ≡ a + body → c ≡ b + right → d ≡ c + 0 → e ≡ d + (own + head)
-    → e ≡ a + (own + (head + (right + (body + 0))))
+    → e ≡ a + ((own + 0) + (head + (right + (body + 0))))
 added_rounds a b c d e own head right body p q r s = omega (arith, p, q, r, s)
 
 pub added_iterated : (a b c d e f own head right body : ℕ) → b ≡ a + body → c ≡ b + right → d ≡ c + 0 → e ≡ d + 0 → f ≡ e + (own + head)
-    → f ≡ a + (own + (0 + (head + (right + (body + 0)))))
+    → f ≡ a + ((own + 0) + (0 + (head + (right + (body + 0)))))
 added_iterated a b c d e f own head right body p q r s t = omega (arith, p, q, r, s, t)
 
 pub added_unstored : (a b own n : ℕ) → own ≡ 0 → b ≡ a + n → b ≡ a + (own + n)
@@ -134,3 +135,24 @@ added_call_link a b c d e f whole own one callee given same is p q r s t = omega
 
 pub added_opened : (a b c : ℕ) → b ≡ a + 0 → c ≡ b + 0 → c ≡ a + 0
 added_opened a b c p q = omega (arith, p, q)
+
+-- A part behind another, which count together.
+
+pub added_both : (a b c first second whole : ℕ) → whole ≡ second + first → b ≡ a + first → c ≡ b + second → c ≡ a + whole
+added_both a b c first second whole same p q = omega (arith, same, p, q)
+
+-- A value is taken apart, and then come the parts that are left.
+pub added_apart : (a b c n whole : ℕ) → whole ≡ n → b ≡ a + 0 → c ≡ b + n → c ≡ a + whole
+added_apart a b c n whole same p q = omega (arith, same, p, q)
+
+-- Parameters.
+
+pub added_last : (a b n : ℕ) → b ≡ a + n → b ≡ a + (0 + n)
+added_last a b n is = omega (arith, is)
+
+pub added_plain : (a b whole more rest : ℕ) → whole ≡ 0 → b ≡ a + (more + rest) → b ≡ a + ((whole + more) + rest)
+added_plain a b whole more rest none is = omega (arith, none, is)
+
+pub added_param : (a b c first whole more rest : ℕ) → whole ≡ first → b ≡ a + first → c ≡ b + (more + rest)
+    → c ≡ a + ((whole + more) + rest)
+added_param a b c first whole more rest same p q = omega (arith, same, p, q)

@@ -43,6 +43,7 @@ use Rattle.rl_hir.specs.declared.terminal.GotoVariant.TheVariants as gotos
 use Rattle.rl_hir.specs.declared.terminal.Terminal.{Terminal}
 use Rattle.rl_lowered.proofs.Blocks.{all_blocks, all_passes, blocks_assigned, blocks_cast, blocks_constant, blocks_found_value}
 use Rattle.rl_lowered.proofs.Blocks.{blocks_noted_value, blocks_reloaded, declarators_blocks, expression_blocks, last_blocks}
+use Rattle.rl_lowered.proofs.Blocks.{pattern_blocks, target_blocks}
 use Rattle.rl_lowered.proofs.ChainFrames.{linked_state, opened_handlers}
 use Rattle.rl_lowered.specs.Forms.{Front, call_of, load_of, store_of, tested_front, typed}
 use Rattle.rl_lowered.specs.Lowered.{Lowered, LoweredDeclarators, LoweredLast, declaring, member_loaded, member_one, member_updated}
@@ -250,6 +251,8 @@ mutual
       (extends_then (expression_blocks more).extends
       (blocks_noted_value u (refusal row.F5 at.span) (values.Primitive primitives.Undefined) (Some at.span)).extends)
       (expression_throws d h on)
+  expression_throws (lowered.AssignedPattern at there w fields right s t u p q is d more) h on =
+      throws_on h s (target_blocks more).extends (expression_throws d h on)
   expression_throws {names}
       (lowered.CompoundVariable at there name operator applied right symbol identifier s t u q p is mutable applies d more f) h on =
       throws_on h s
@@ -414,6 +417,11 @@ declarators_throw {names} {at} {k}
     (values.StoreLocal k (record { identifier = record { 0 = identifier }; span = Some at }) p) (Some at))
     (declarators_blocks ds).extends))
     (expression_throws d h on)
+declarators_throw {k} (lowered.NextTakenApart there pattern init more s t u v p q is present d dp ds) kind shows h on =
+    throws_on h s (extends_then (pattern_blocks dp).extends (declarators_blocks ds).extends) (expression_throws d h on)
+declarators_throw {at} {k} (lowered.NextUntaken there pattern more s u v q is dp ds) kind shows h on =
+    throws_on h s (extends_then (pattern_blocks dp).extends (declarators_blocks ds).extends)
+    (value_throws h s (values.Primitive primitives.Undefined) (Some at) on)
 
 -- The test of an `if` statement.
 pub if_throws : (h : BlockId) (s s4 : State) (behind consequent alternate : ℕ) (test : Place) (span : Span) → Throws h s s4

@@ -1,24 +1,28 @@
 -- Promises of the lowering of a part, from its derivation.
-use Rattle.std.proofs.Common.{Bool, List, Option, refl}
+use Rattle.std.proofs.Common.{Bool, List, Option, refl, arith}
 use Rattle.rl_base.specs.declared.ids.BlockId.{BlockId}
 use Rattle.rl_base.specs.declared.span.Span.{Span}
 use Rattle.rl_builder.specs.Builder.{State}
 use Rattle.rl_frames.specs.SwitchParts.{switch_begun}
+use Rattle.rl_hir.specs.declared.instruction.InstructionKind.{InstructionKind}
 use Rattle.rl_hir.specs.declared.instruction.Place.{Place}
 use Rattle.rl_hir.specs.declared.terminal.Case.{Case}
 use Rattle.rl_hir.specs.Pieces.{Piece}
 use Rattle.rl_lowered.proofs.Names.{all_names, case_test_names, cases_names, expression_names, front_names, head_names, init_names}
 use Rattle.rl_lowered.proofs.Names.{last_names, link_names, loop_names, names_same, spine_names, statement_names, statements_names}
-use Rattle.rl_lowered.proofs.Names.{test_names}
+use Rattle.rl_lowered.proofs.Names.{bound_names, later_names, moved_names, pattern_names, target_names, test_names}
 use Rattle.rl_lowered.proofs.Sizes.{all_size, case_test_size, cases_size, expression_size, front_size, head_size, init_size, last_size}
+use Rattle.rl_lowered.proofs.Sizes.{later_size, left_size, moved_size, pattern_size, target_size}
 use Rattle.rl_lowered.proofs.Sizes.{link_size, loop_size, spine_size, statement_size, statements_size, test_size}
 use Rattle.rl_lowered.specs.Forms.{Front}
 use Rattle.rl_lowered.specs.Lowered.{Lowered, LoweredAll, LoweredCaseTest, LoweredCases, LoweredFront, LoweredHead, LoweredInit}
 use Rattle.rl_lowered.specs.Lowered.{LoweredLast, LoweredLink, LoweredLoop, LoweredProperties, LoweredSpine, LoweredStatement}
-use Rattle.rl_lowered.specs.Lowered.{LoweredStatements, LoweredTest}
+use Rattle.rl_lowered.specs.Items.{Later}
+use Rattle.rl_lowered.specs.Lowered.{LoweredBound, LoweredLater, LoweredMoved, LoweredPattern, LoweredStatements, LoweredTarget}
+use Rattle.rl_lowered.specs.Lowered.{LoweredTest}
 use Rattle.rl_lowered.specs.Promised.{LowersAll, LowersCaseTest, LowersCases, LowersExpression, LowersFront, LowersHead, LowersInit}
 use Rattle.rl_lowered.specs.Promised.{LowersLast, LowersLink, LowersLoop, LowersProperties, LowersSpine, LowersStatement}
-use Rattle.rl_lowered.specs.Promised.{LowersStatements, LowersTest}
+use Rattle.rl_lowered.specs.Promised.{LowersBound, LowersLater, LowersMoved, LowersPattern, LowersStatements, LowersTarget, LowersTest}
 use Rattle.rl_model.specs.Actions.{Label}
 use Rattle.rl_names.specs.Names.{Names}
 use Rattle.rl_syntax.specs.Syntax.{Pieces, Syntax}
@@ -73,6 +77,26 @@ told_statements l = record { by = l; named = (statements_names l).named; size = 
 pub told_case_test : {names : Names} {e : Syntax} {s t : State} {p : Option Place} → LoweredCaseTest names e s t p
     → LowersCaseTest names e s t p
 told_case_test l = record { by = l; named = (case_test_names l).named; size = case_test_size l }
+
+-- Defaults, targets and patterns.
+
+pub told_moved : {names : Names} {e : Syntax} {s t : State} {p : Place} → LoweredMoved names e s t p → LowersMoved names e s t p
+told_moved l = record { by = l; named = (moved_names l).named; size = moved_size l }
+
+pub told_target : {names : Names} {at : Span} {value : Place} {e : Syntax} {s t : State} {p : Place}
+    → LoweredTarget names at value e s t p → LowersTarget names at value e s t p
+told_target l = record { by = l; named = (target_names l).named; size = omega (arith, target_size l) }
+
+pub told_later : {names : Names} {later : List Later} {s t : State} → LoweredLater names later s t → LowersLater names later s t
+told_later l = record { by = l; named = (later_names l).named; size = omega (arith, later_size l) }
+
+pub told_pattern : {names : Names} {again : Bool} {k : InstructionKind} {at : Span} {value : Place} {e : Syntax} {s t : State} {p : Place}
+    → LoweredPattern names again k at value e s t p → LowersPattern names again k at value e s t p
+told_pattern l = record { by = l; named = (pattern_names l).named; size = omega (arith, pattern_size l) }
+
+pub told_bound : {names : Names} {again : Bool} {k : InstructionKind} {later : List Later} {s t : State}
+    → LoweredBound names again k later s t → LowersBound names again k later s t
+told_bound l = record { by = l; named = (bound_names l).named; size = omega (arith, left_size l) }
 
 -- The block that was numbered for what follows a `switch` is told with its cases.
 pub told_cases : {names : Names} {s : State} {es : Pieces} {ks : List Case} {t : State} → LoweredCases names s es ks t

@@ -5,7 +5,7 @@ use Rattle.rl_base.specs.declared.ids.BlockId.{BlockId}
 use Rattle.rl_base.specs.declared.row.Row.TheVariants as row
 use Rattle.rl_base.specs.declared.span.Span.{Span}
 use Rattle.rl_base.specs.Diagnostics.{diagnostic_at}
-use Rattle.rl_builder.specs.Builder.{State, new_block, pushed, recorded, reserved}
+use Rattle.rl_builder.specs.Builder.{State, new_block, pushed, recorded, reserved, with_temporary}
 use Rattle.rl_builder.specs.Temporaries.{temporary, with_value}
 use Rattle.rl_frames.proofs.LoopNotes.{do_while_unread, while_unread}
 use Rattle.rl_frames.proofs.RoundNotes.{forin_unread, forof_unread}
@@ -19,7 +19,10 @@ use Rattle.rl_frames.specs.Rounds.{ForOfParts, RoundsParts, forin_at, forin_head
 use Rattle.rl_frames.specs.Rounds.{forof_tested, rounds_shut}
 use Rattle.rl_frames.specs.SwitchParts.{case_begun, case_ended, fall_of, switch_begun, switch_end}
 use Rattle.rl_hir.specs.declared.function.BlockKind.TheVariants as blocks
+use Rattle.rl_hir.specs.declared.function.Param.{Param}
 use Rattle.rl_hir.specs.declared.instruction.InstructionKind.{InstructionKind}
+use Rattle.rl_hir.specs.declared.instruction.InstructionKind.TheVariants as variables
+use Rattle.rl_hir.specs.declared.instruction.InstructionValue.{InstructionValue}
 use Rattle.rl_hir.specs.declared.instruction.InstructionValue.TheVariants as values
 use Rattle.rl_hir.specs.declared.instruction.Place.{Place}
 use Rattle.rl_hir.specs.declared.instruction.PrimitiveValue.TheVariants as primitives
@@ -28,8 +31,11 @@ use Rattle.rl_hir.specs.declared.terminal.GotoVariant.TheVariants as gotos
 use Rattle.rl_hir.specs.declared.terminal.ReturnVariant.TheVariants as returns
 use Rattle.rl_hir.specs.declared.terminal.TerminalKind.TheVariants as kinds
 use Rattle.rl_hir.specs.Pieces.{Piece}
+use Rattle.rl_lowered.proofs.Blocks.{moved_blocks}
 use Rattle.rl_lowered.proofs.Blocks.{all_blocks, blocks_noted_value, expression_blocks, front_blocks, head_blocks, statement_blocks}
 use Rattle.rl_lowered.proofs.Catches.{catch_declared, declares_caught, stores_caught}
+use Rattle.rl_lowered.proofs.ItemBlocks.{ahead_stays, bound_stays, stays_met, taken_stays}
+use Rattle.rl_lowered.proofs.UnreadMoves.{unreads_defaulted, unreads_stays}
 use Rattle.rl_lowered.proofs.UnreadMoves.{Unreads, own_note, unreads_assigned, unreads_constant, unreads_declaring, unreads_ended}
 use Rattle.rl_lowered.proofs.UnreadMoves.{unreads_for_opened, unreads_found, unreads_found_value, unreads_frame, unreads_last, unreads_link}
 use Rattle.rl_lowered.proofs.UnreadMoves.{unreads_member, unreads_next, unreads_noted, unreads_noted_value, unreads_pushed}
@@ -37,16 +43,18 @@ use Rattle.rl_lowered.proofs.UnreadMoves.{unreads_refl, unreads_reloaded, unread
 use Rattle.rl_lowered.proofs.UnreadMoves.{unreads_stored, unreads_then, unreads_throwing, unreads_tried, unreads_typed, unreads_undefined}
 use Rattle.rl_lowered.proofs.UnreadMoves.{unreads_value}
 use Rattle.rl_lowered.specs.Forms.{Front, call_of, load_of, store_of, tested_front, typed}
+use Rattle.rl_lowered.specs.Items.{Later, caught, destructured, found_again, met, promoted, variable_at}
 use Rattle.rl_lowered.specs.Lowered.{Lowered, LoweredBody, LoweredCaseTest, LoweredCases, LoweredDeclarators, LoweredHead, LoweredInit}
 use Rattle.rl_lowered.specs.Lowered.{LoweredFront, LoweredLast, LoweredLink, LoweredLoop, LoweredParts, LoweredSpine, LoweredStatement}
 use Rattle.rl_lowered.specs.Lowered.{LoweredStatements, LoweredTest, private_met}
-use Rattle.rl_lowered.specs.Lowered.{assigned_to, catch_begun, catch_bound, caught, declaring, found_again, name_computed, part_span}
-use Rattle.rl_lowered.specs.Lowered.{promoted, throwing, value_span}
+use Rattle.rl_lowered.specs.Lowered.{assigned_to, catch_begun, catch_bound, declaring, name_computed, part_span}
+use Rattle.rl_lowered.specs.Lowered.{throwing, value_span}
+use Rattle.rl_lowered.specs.Lowered.{LoweredBound, LoweredLater, LoweredMoved, LoweredParams, LoweredPattern, LoweredTarget}
 use Rattle.rl_lowered.specs.Lowered as lowered
 use Rattle.rl_lowered.specs.Named.{found}
 use Rattle.rl_model.specs.Actions.{Label}
 use Rattle.rl_names.specs.Names.{Names}
-use Rattle.rl_optional_frames.specs.Frames.{link_at, link_objected}
+use Rattle.rl_optional_frames.specs.Frames.{default_at, default_ended, link_at, link_objected}
 use Rattle.rl_promises.specs.Moved.{type_name}
 use Rattle.rl_promises.specs.Rows.{refusal, row_of_head}
 use Rattle.rl_runs.proofs.Moves.{extends_then, extends_value}
@@ -88,6 +96,8 @@ mutual
   expression_unread (lowered.AssignedPrivate at there object name right s t u p q l m) =
       unreads_then s t _ (expression_unread l)
       (unreads_then t u _ (expression_unread m) (unreads_undefined u (refusal row.F5 at.span) at.span))
+  expression_unread (lowered.AssignedPattern at there w fields right s t u p q is l d) =
+      unreads_then s t u (expression_unread l) (target_unread d)
   expression_unread {names}
       (lowered.CompoundVariable at there name operator applied right symbol identifier s t u q p is mutable applies l m f) =
       unreads_then s t _ (expression_unread l)
@@ -178,6 +188,38 @@ mutual
       (unreads_ended gone (ends_by (kinds.Sequence (record { 0 = f.block }) f.behind.id) (Some f.span)) f.behind refl refl))))
   expression_unread (lowered.Chain at e s t p l) = spine_unread l
 
+  pub moved_unread : {names : Names} {e : Syntax} {s t : State} {p : Place} → LoweredMoved names e s t p → Unreads s t
+  moved_unread (lowered.Stays e s t p is d) = expression_unread d
+  moved_unread (lowered.Moved at w fields s t p is d) =
+      let noted : Diagnostic = diagnostic_at row.F29 (type_name w) at.span in
+      unreads_then s (recorded s noted) t (unreads_noted s noted) (expression_unread d)
+
+  pub target_unread : {names : Names} {at : Span} {value : Place} {e : Syntax} {s t : State} {p : Place}
+      → LoweredTarget names at value e s t p → Unreads s t
+  target_unread {names} {at} {value} (lowered.TargetVariable there name symbol identifier s is mutable f) =
+      unreads_found_value names s symbol there.span (assigned_to identifier at value) (Some at)
+  target_unread {names} (lowered.TargetConstant there name symbol identifier s is constant f) =
+      let first : State = found names s symbol there.span in
+      unreads_then s first _ (unreads_found names s symbol there.span)
+      (unreads_noted first (diagnostic_at row.F6 (names.name symbol.0) there.span))
+  target_unread {at} {value} (lowered.TargetGlobal there name binding s is) = unreads_value s (values.StoreGlobal name value) (Some at)
+  target_unread {at} {value} (lowered.TargetMember there w fields parts pieces object key s t is l) =
+      unreads_then s t _ (all_unread l) (unreads_value t (store_of object key value) (Some at))
+  target_unread (lowered.TargetLost there w fields s is) = unreads_noted s (refusal (row_of_head w) there.span)
+  target_unread {value} (lowered.TargetDefaulted there w fields target default s t u q p is d dt) =
+      unreads_then s (default_ended (default_at s there.span value) t q) u
+      (unreads_defaulted s t q value there.span (moved_blocks d) (moved_unread d)) (target_unread dt)
+  target_unread {at} {value}
+      (lowered.TargetPattern there w of_object forced items rest pattern pieces later s t u v is ahead taken are l) =
+      let apart : InstructionValue = destructured variables.Reassign pattern value in
+      unreads_then s t v (unreads_stays (ahead_stays ahead))
+      (unreads_then t u v (unreads_stays (taken_stays taken))
+      (unreads_then u (with_value u apart (Some at)) v (unreads_value u apart (Some at)) (later_unread l)))
+
+  pub later_unread : {names : Names} {later : List Later} {s t : State} → LoweredLater names later s t → Unreads s t
+  later_unread (lowered.NoLater s) = unreads_refl s
+  later_unread (lowered.NextLater value part later s t u p d ds) = unreads_then s t u (target_unread d) (later_unread ds)
+
   pub spine_unread : {names : Names} {below : Bool} {e : Syntax} {s t : State} {p : Place} → LoweredSpine names below e s t p → Unreads s t
   spine_unread (lowered.Outermost e s t front p l) = link_unread l
   spine_unread (lowered.Asserted at e s t p l) = spine_unread l
@@ -232,6 +274,44 @@ mutual
   last_unread (lowered.LastPart e s t p l) = expression_unread l
   last_unread (lowered.EarlierPart e next es s t u p q l more) = unreads_then s t u (expression_unread l) (last_unread more)
 
+mutual
+  pub pattern_unread : {names : Names} {again : Bool} {k : InstructionKind} {at : Span} {value : Place} {e : Syntax} {s t : State}
+      {p : Place} → LoweredPattern names again k at value e s t p → Unreads s t
+  pattern_unread {names} {again} {k} {at} {value} (lowered.BoundName bind name type symbol identifier s annotated is f) =
+      let here : State = met again names s symbol identifier bind.span in
+      unreads_then s here _ (unreads_stays (stays_met again names s symbol bind.span identifier f))
+      (unreads_value here (values.StoreLocal k (variable_at identifier at) value) (Some at))
+  pattern_unread {value} (lowered.BoundDefault there pattern default s t u q p d dt) =
+      unreads_then s (default_ended (default_at s there.span value) t q) u
+      (unreads_defaulted s t q value there.span (moved_blocks d) (moved_unread d)) (pattern_unread dt)
+  pattern_unread {k} {at} {value} (lowered.BoundPattern there w of_object items rest pattern pieces later s u v is bound are l) =
+      let apart : InstructionValue = destructured k pattern value in
+      unreads_then s u v (unreads_stays (bound_stays bound))
+      (unreads_then u (with_value u apart (Some at)) v (unreads_value u apart (Some at)) (bound_unread l))
+
+  pub bound_unread : {names : Names} {again : Bool} {k : InstructionKind} {later : List Later} {s t : State}
+      → LoweredBound names again k later s t → Unreads s t
+  bound_unread (lowered.NothingBound s) = unreads_refl s
+  bound_unread (lowered.NextBound value part later s t u p d ds) = unreads_then s t u (pattern_unread d) (bound_unread ds)
+
+pub params_unread : {names : Names} {es : Pieces} {rest : Syntax} {s t : State} {ps : List Param}
+    → LoweredParams names es rest s t ps → Unreads s t
+params_unread (lowered.NoParam s) = unreads_refl s
+params_unread (lowered.RestParam there pattern s t p d) =
+    let made : State = with_temporary s (Some there.span) in
+    unreads_then s made t (unreads_same s made refl refl (omega arith)) (pattern_unread d)
+params_unread {names} (lowered.PlainParam there bind name type rest more symbol identifier s t ps annotated is f ds) =
+    unreads_then s _ t (unreads_found names s symbol bind.span) (params_unread ds)
+params_unread (lowered.PatternParam there pattern rest more s t u p ps is d ds) =
+    unreads_then s (promoted s there.span) u (unreads_same s (promoted s there.span) refl refl (omega arith))
+    (unreads_then _ t u (pattern_unread d) (params_unread ds))
+params_unread (lowered.DefaultParam there pattern default rest more s t u v q p ps d dt ds) =
+    let x : State = promoted s there.span in
+    let ended : State = default_ended (default_at x there.span (caught s there.span)) t q in
+    unreads_then s x v (unreads_same s x refl refl (omega arith))
+    (unreads_then x ended v (unreads_defaulted x t q (caught s there.span) there.span (moved_blocks d) (moved_unread d))
+    (unreads_then ended u v (pattern_unread dt) (params_unread ds)))
+
 declarators_unread : {names : Names} {at : Span} {k : InstructionKind} {es : Pieces} {s t : State}
     → LoweredDeclarators names at k es s t → Unreads s t
 declarators_unread (lowered.NoDeclarator s) = unreads_refl s
@@ -240,6 +320,12 @@ declarators_unread {names} (lowered.NextDeclared there bind name type more symbo
 declarators_unread {names} {at} (lowered.NextInitialized there bind name type init more symbol identifier s t u p annotated is l f ls) =
     unreads_then s t u (expression_unread l)
     (unreads_then t _ u (unreads_found_value names t symbol bind.span _ (Some at)) (declarators_unread ls))
+declarators_unread (lowered.NextTakenApart there pattern init more s t u v p q is present d dp ds) =
+    unreads_then s t v (expression_unread d) (unreads_then t u v (pattern_unread dp) (declarators_unread ds))
+declarators_unread {at} (lowered.NextUntaken there pattern more s u v q is dp ds) =
+    let made : State = with_value s (values.Primitive primitives.Undefined) (Some at) in
+    unreads_then s made v (unreads_value s (values.Primitive primitives.Undefined) (Some at))
+    (unreads_then made u v (pattern_unread dp) (declarators_unread ds))
 
 unreads_returned : (s : State) (span : Option Span) (place : Place)
     → Unreads s (returned_from s span returns.Explicit place blocks.Block)
@@ -278,6 +364,8 @@ head_unread {names} (lowered.ReassignedConstant at name symbol identifier s is c
 head_unread {value} (lowered.StoredGlobal at name binding s is) = unreads_value s (values.StoreGlobal name value) (Some at.span)
 head_unread {value} (lowered.StoredMember at w fields parts pieces object key s t is l) =
     unreads_then s t _ (all_unread l) (unreads_value t (store_of object key value) (Some at.span))
+head_unread (lowered.DeclaredPattern at there kind pattern s t p is d) = pattern_unread d
+head_unread (lowered.StoredPattern at w fields s t p is d) = target_unread d
 head_unread (lowered.Lost at w fields s is) = unreads_noted s (refusal (row_of_head w) at.span)
 
 mutual

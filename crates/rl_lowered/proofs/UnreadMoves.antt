@@ -33,22 +33,25 @@ use Rattle.rl_hir.specs.declared.terminal.GotoVariant.TheVariants as gotos
 use Rattle.rl_hir.specs.declared.terminal.Terminal.{Terminal}
 use Rattle.rl_hir.specs.declared.terminal.TerminalKind.{TerminalKind}
 use Rattle.rl_lowered.proofs.ChainFrames.{linked_state}
+use Rattle.rl_lowered.proofs.ItemBlocks.{Stays}
 use Rattle.rl_lowered.specs.Forms.{MemberKey, load_of, store_of, typed}
+use Rattle.rl_lowered.specs.Items.{variable_at}
 use Rattle.rl_lowered.specs.Lowered.{assigned_to, declaring, member_assigned, member_computed, member_loaded, member_one, member_stored}
-use Rattle.rl_lowered.specs.Lowered.{member_updated, name_computed, name_reloaded, name_stored, throwing, throwing_under, variable_at}
+use Rattle.rl_lowered.specs.Lowered.{member_updated, name_computed, name_reloaded, name_stored, throwing, throwing_under}
 use Rattle.rl_lowered.specs.Named.{found}
 use Rattle.rl_names.specs.Names.{Names}
 use Rattle.rl_optional_frames.proofs.LinkStarts.{early_extends}
-use Rattle.rl_optional_frames.proofs.Notes.{early_unread, link_unread}
-use Rattle.rl_optional_frames.specs.Frames.{link_at, link_objected}
-use Rattle.rl_optional_frames.specs.Parts.{link_opened}
+use Rattle.rl_optional_frames.proofs.DefaultBlocks.{default_blocks}
+use Rattle.rl_optional_frames.proofs.Notes.{default_unread, early_unread, link_unread}
+use Rattle.rl_optional_frames.specs.Frames.{default_at, default_ended, link_at, link_objected}
+use Rattle.rl_optional_frames.specs.Parts.{default_begun, link_opened}
 use Rattle.rl_promises.specs.Rows.{refusal}
 use Rattle.rl_runs.proofs.Holes.{front_added}
 use Rattle.rl_runs.proofs.Moves.{extends_pushed, extends_value}
 use Rattle.rl_runs.proofs.Naming.{named_first, named_none}
 use Rattle.rl_runs.proofs.ReadNotes.{knows_then, marked_ended, unread_ended, unread_pushed, unread_then}
 use Rattle.rl_runs.proofs.Steps.{added_cases}
-use Rattle.rl_runs.specs.Blocks.{ByBreak, ByContinue, ByHandler, IsTarget}
+use Rattle.rl_runs.specs.Blocks.{ByBreak, ByContinue, ByHandler, IsTarget, PreservesBlocks}
 use Rattle.rl_runs.specs.Facts.{Extends}
 use Rattle.rl_runs.specs.Moves.{block_id, goto, last_hole, next_hole, stored_in, without_handler, without_scope}
 use Rattle.rl_runs.specs.ReadNotes.{HasId, IsHandler, KeepsUnread, KnowsReads, MarkedAt, ReadsSince, ReplacesSince, Unread, reads_of}
@@ -84,6 +87,20 @@ unreads_same s t completed handlers grows = record {
 
 pub unreads_refl : (s : State) → Unreads s s
 unreads_refl s = unreads_same s s refl refl (omega arith)
+
+-- The moves of the items of a pattern, and a default.
+
+pub unreads_stays : {s t : State} → Stays s t → Unreads s t
+unreads_stays {s} {t} a = unreads_same s t a.completed a.blocks.extends.handlers (omega (arith, a.numbered))
+
+pub unreads_defaulted : (s s2 : State) (default value : Place) (span : Span) → PreservesBlocks (default_begun s span) s2
+    → Unreads (default_begun s span) s2 → Unreads s (default_ended (default_at s span value) s2 default)
+unreads_defaulted s s2 default value span b k =
+    let g = (default_blocks s s2 default value span b).extends in record {
+      grows = g.blocks;
+      handlers = g.handlers;
+      keeps = default_unread s s2 default value span b.extends k.keeps;
+    }
 
 -- A terminal that marks no block.
 pub unreads_ended : (s : State) (t : Terminal) (next : WipBlock) → replaced_of t.kind ≡ [] → reads_of t.kind ≡ []

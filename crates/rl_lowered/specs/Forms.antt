@@ -1,7 +1,7 @@
 -- The table of kinds whose value is one instruction over the values of their parts, from left to right, and that of literals.
 use Rattle.std.specs.Prelude.{◌≡◌, ℕ, Bool, true, false, List, [], ◌∷◌, Option, Some, None, codes}
 use Rattle.std.specs.Str.{bytes_eq}
-use Rattle.rl_base.specs.Operators.{operator_text, unary_text}
+use Rattle.rl_base.specs.Operators.{assignment_text, operator_text, unary_text}
 use Rattle.rl_base.specs.declared.operator.AssignmentOperator.{AssignmentOperator}
 use Rattle.rl_base.specs.declared.operator.AssignmentOperator.TheVariants as assignments
 use Rattle.rl_base.specs.declared.operator.BinaryOperator.{BinaryOperator}
@@ -15,7 +15,7 @@ use Rattle.rl_builder.specs.Builder.{State, with_type}
 use Rattle.rl_grammar.specs.Grammar.{fits}
 use Rattle.rl_grammar.specs.declared.kind.Field.TheVariants as field
 use Rattle.rl_grammar.specs.declared.kind.Kind.TheVariants as sort
-use Rattle.rl_hir.specs.Pieces.{Piece, Use, Gives, Spreads, Takes, argument_pieces, element_pieces, gathered, value_pieces}
+use Rattle.rl_hir.specs.Pieces.{Piece, Use, Gives, Names as Named, Spreads, Takes, argument_pieces, element_pieces, gathered, value_pieces}
 use Rattle.rl_hir.specs.declared.instruction.ArrayElement.{ArrayElement}
 use Rattle.rl_hir.specs.declared.instruction.HirType.{HirType}
 use Rattle.rl_hir.specs.declared.instruction.HirType.TheVariants as casts
@@ -29,10 +29,11 @@ use Rattle.rl_hir.specs.declared.instruction.PrimitiveValue.TheVariants as primi
 use Rattle.rl_hir.specs.declared.instruction.PropertyLiteral.{PropertyLiteral}
 use Rattle.rl_hir.specs.declared.instruction.PropertyLiteral.TheVariants as keys
 use Rattle.rl_hir.specs.declared.instruction.TemplateQuasi.{TemplateQuasi}
-use Rattle.rl_model.specs.Shapes.{are_raw, is_logical}
+use Rattle.rl_model.specs.Shapes.{are_raw, is_absent, is_hole, is_logical, piece_shape}
 use Rattle.rl_names.specs.Names.{Names}
 use Rattle.rl_names.specs.declared.names.Meaning.TheVariants.{Outer}
 use Rattle.rl_promises.specs.Outs.{is_lost_delete, is_wrapped}
+use Rattle.rl_promises.specs.Patterns.{is_pattern, key_name}
 use Rattle.rl_promises.specs.Rows.{row_of_update}
 use Rattle.rl_promises.specs.Tallies.{call_word}
 use Rattle.rl_syntax.specs.declared.numbered.At.{At}
@@ -194,6 +195,9 @@ pub data IsRefused (names : Names) : Word → Pieces → Row → Type 0 where
       → IsRefused names word.Update (Then operator (Then prefix (Then (Node there word.Id (Then (Said name) End)) End))) (row_of_update b)
   LogicalAssignment : {operator : List ℕ} {target right : Syntax} → is_logical operator ≡ true
       → IsRefused names word.Assign (Then (Said operator) (Then target (Then right End))) row.F23
+  PatternAssignment : (operator : AssignmentOperator) {applied : BinaryOperator} {target right : Syntax}
+      → applied_by operator ≡ Some applied → is_pattern target ≡ true
+      → IsRefused names word.Assign (Then (Said (assignment_text operator)) (Then target (Then right End))) row.F24
 
 -- A kind that is refused before its parts are lowered: its word and fields, the parts, and the row.
 pub data IsRefusing : Word → (fields parts : Pieces) → Row → Type 0 where
@@ -208,9 +212,49 @@ pub data IsPrivate : Word → Pieces → Syntax → Type 0 where
   PrivateUpdate : {operator prefix : Syntax} {there : At} {parts : Pieces}
       → IsPrivate word.Update (Then operator (Then prefix (Then (Node there word.Privatemember parts) End)))
       (Node there word.Privatemember parts)
-  PrivateDelete : (operator : UnaryOperator) {e : Syntax} {there : At} {parts : Pieces} → bytes_eq (unary_text operator) (codes "delete") ≡ true
+  PrivateDelete : (operator : UnaryOperator) {e : Syntax} {there : At} {parts : Pieces} → bytes_eq (unary_text operator)
+      (codes "delete") ≡ true
       → IsInside e (Node there word.Privatemember parts)
       → IsPrivate word.Unary (Then (Said (unary_text operator)) (Then e End)) (Node there word.Privatemember parts)
+
+-- An item of a pattern that takes a piece of a value, and is no hole: the pieces that it gives to the instruction in front of its place,
+-- and the part that takes the piece. The items of an object pattern have keys; `binds` is true in a binding pattern.
+pub data IsItem : (binds of_object : Bool) → (item : Syntax) → (key : List Piece) → (part : Syntax) → Type 0 where
+  Element : {binds : Bool} {part : Syntax} → is_hole part ≡ false → piece_shape part ≡ codes "place" ∷ []
+      → IsItem binds false part [] part
+  BoundProperty : {at : At} {key pattern : Syntax} {text : List ℕ} → key_name key ≡ Some text
+      → IsItem true true (Node at word.Keyedpat (Then (Flag false) (Then key (Then pattern End)))) (Named text ∷ []) pattern
+  TakenProperty : {at : At} {key target : Syntax} {text : List ℕ} → key_name key ≡ Some text
+      → IsItem false true (Node at word.Keyed (Then (Flag false) (Then key (Then target End)))) (Named text ∷ []) target
+  Shorthand : {at there : At} {name : List ℕ}
+      → IsItem false true (Node at word.Short (Then (Node there word.Id (Then (Said name) End)) (Then Absent End))) (Named name ∷ [])
+      (Node there word.Id (Then (Said name) End))
+  -- The default belongs to the part.
+  ShorthandDefault : {at there : At} {name : List ℕ} {default : Syntax} → is_absent default ≡ false
+      → IsItem false true (Node at word.Short (Then (Node there word.Id (Then (Said name) End)) (Then default End))) (Named name ∷ [])
+      (Node at word.Short (Then (Node there word.Id (Then (Said name) End)) (Then default End)))
+
+-- A property of a pattern that may be left out, by its key.
+pub data IsProperty : (binds : Bool) → (item : Syntax) → Type 0 where
+  OfBinding : {at : At} {computed : Bool} {key pattern : Syntax}
+      → IsProperty true (Node at word.Keyedpat (Then (Flag computed) (Then key (Then pattern End))))
+  OfTarget : {at : At} {computed : Bool} {key target : Syntax}
+      → IsProperty false (Node at word.Keyed (Then (Flag computed) (Then key (Then target End))))
+
+-- True of a target that is no item of a pattern around it: it has no default and no key, and is no rest.
+abbrev pub is_whole_target : Syntax → Bool
+is_whole_target (Node at word.Default parts) = false
+is_whole_target (Node at word.Short parts) = false
+is_whole_target (Node at word.Keyed parts) = false
+is_whole_target (Node at word.Rest parts) = false
+is_whole_target target = true
+
+-- A target with a default: its word and fields, and the two parts.
+pub data IsDefaulted : Word → Pieces → (target default : Syntax) → Type 0 where
+  DefaultTarget : {target default : Syntax} → is_whole_target target ≡ true
+      → IsDefaulted word.Default (Then target (Then default End)) target default
+  DefaultName : {name default : Syntax} → is_whole_target name ≡ true → is_absent default ≡ false
+      → IsDefaulted word.Short (Then name (Then default End)) name default
 
 -- The texts of a template, in order, each by its source and its value. A text with an invalid escape has no value.
 pub data AreQuasis : Pieces → List TemplateQuasi → Type 0 where

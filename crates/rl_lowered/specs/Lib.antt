@@ -1,9 +1,13 @@
 pub mod Arounds
 pub mod Forms
+pub mod Items
 pub mod Listing
 pub mod Lowered
 pub mod Named
+pub mod Params
+pub mod Parts
 pub mod Promised
 pub mod Sound
 pub mod Spanned
 pub mod Steps
+pub mod Updates

@@ -1,7 +1,5 @@
 -- The lowering as a relation: a derivation says by which moves the builder came from one state to another for a part of the source.
-use Rattle.std.specs.Prelude.{◌≡◌, ℕ, ◌+◌, Bool, true, false, List, [], ◌∷◌, ◌++◌, ◌&&◌, length, Option, Some, None, Ok, codes}
-use Rattle.std.specs.Prelude.{unwrap_or}
-use Rattle.std.specs.Fmt.{decimal}
+use Rattle.std.specs.Prelude.{◌≡◌, ℕ, Bool, true, false, List, [], ◌∷◌, ◌&&◌, Option, Some, None, Ok, codes}
 use Rattle.rl_base.specs.Diagnostics.{diagnostic_at}
 use Rattle.rl_base.specs.Operators.{assignment_text, logical_text, update_text}
 use Rattle.rl_base.specs.TypeKinds.{type_text}
@@ -10,17 +8,15 @@ use Rattle.rl_base.specs.declared.ids.BlockId.{BlockId}
 use Rattle.rl_base.specs.declared.ids.SymbolId.{SymbolId}
 use Rattle.rl_base.specs.declared.operator.AssignmentOperator.{AssignmentOperator}
 use Rattle.rl_base.specs.declared.operator.BinaryOperator.{BinaryOperator}
-use Rattle.rl_base.specs.declared.operator.BinaryOperator.TheVariants as binaries
 use Rattle.rl_base.specs.declared.operator.LogicalOperator.{LogicalOperator}
 use Rattle.rl_base.specs.declared.operator.UpdateOperator.{UpdateOperator}
-use Rattle.rl_base.specs.declared.operator.UpdateOperator.TheVariants as updates
 use Rattle.rl_base.specs.declared.row.Row.{Row}
 use Rattle.rl_base.specs.declared.row.Row.TheVariants as row
 use Rattle.rl_base.specs.declared.span.Span.{Span}
 use Rattle.rl_base.specs.declared.type_kind.TypeKind.{TypeKind}
 use Rattle.rl_base.specs.declared.variable_kind.VariableKind.{VariableKind}
 use Rattle.rl_base.specs.declared.variable_kind.VariableKind.TheVariants as variables
-use Rattle.rl_builder.specs.Builder.{State, completed_by, innermost, new_block, recorded, reserved}
+use Rattle.rl_builder.specs.Builder.{State, completed_by, innermost, new_block, recorded, reserved, with_temporary}
 use Rattle.rl_builder.specs.Jumps.{lookup_break, lookup_continue}
 use Rattle.rl_builder.specs.Temporaries.{temporary, with_value}
 use Rattle.rl_frames.specs.Frames.{if_alternate, if_after_consequent, if_at, if_consequent, if_ended, if_shut}
@@ -37,17 +33,17 @@ use Rattle.rl_frames.specs.Rounds.{forof_righted, forof_shut, rounds_bodied, rou
 use Rattle.rl_frames.specs.SwitchParts.{case_begun, case_ended, fall_of, switch_begun, switch_finished}
 use Rattle.rl_grammar.specs.Grammar.{every}
 use Rattle.rl_grammar.specs.declared.kind.Kind.TheVariants as sort
-use Rattle.rl_hir.specs.Identifiers.{changed_at, with_span}
-use Rattle.rl_hir.specs.Pieces.{Piece, Gives, Names as Named, Says, Spreads, argument_pieces, gathered, property_pieces}
+use Rattle.rl_hir.specs.Pieces.{Piece, Gives, Names as Named, Says, Spreads, argument_pieces, gathered, pattern_pieces, property_pieces}
 use Rattle.rl_hir.specs.declared.function.BlockKind.TheVariants as blocks
-use Rattle.rl_hir.specs.declared.function.Identifier.{Identifier}
-use Rattle.rl_hir.specs.declared.function.IdentifierName.TheVariants as identifiers
+use Rattle.rl_hir.specs.declared.function.Param.{Param}
+use Rattle.rl_hir.specs.declared.function.Param.TheVariants as params
 use Rattle.rl_hir.specs.declared.instruction.InstructionKind.{InstructionKind}
 use Rattle.rl_hir.specs.declared.instruction.InstructionKind.TheVariants as kinds
 use Rattle.rl_hir.specs.declared.instruction.InstructionValue.{InstructionValue}
 use Rattle.rl_hir.specs.declared.instruction.InstructionValue.TheVariants as values
 use Rattle.rl_hir.specs.declared.instruction.NonLocalBinding.{NonLocalBinding}
 use Rattle.rl_hir.specs.declared.instruction.ObjectProperty.{ObjectProperty}
+use Rattle.rl_hir.specs.declared.instruction.Pattern.{Pattern}
 use Rattle.rl_hir.specs.declared.instruction.Place.{Place}
 use Rattle.rl_hir.specs.declared.instruction.PlaceOrSpread.{PlaceOrSpread}
 use Rattle.rl_hir.specs.declared.instruction.PrimitiveValue.{PrimitiveValue}
@@ -55,19 +51,28 @@ use Rattle.rl_hir.specs.declared.instruction.PrimitiveValue.TheVariants as primi
 use Rattle.rl_hir.specs.declared.terminal.Case.{Case}
 use Rattle.rl_hir.specs.declared.terminal.GotoVariant.TheVariants as gotos
 use Rattle.rl_hir.specs.declared.terminal.ReturnVariant.TheVariants as returns
-use Rattle.rl_lowered.specs.Forms.{IsAnnotation, IsCast, IsForm, IsLiteral, IsMember, IsPrivate, IsRefused, IsRefusing, IsWrapper}
-use Rattle.rl_lowered.specs.Forms.{Alone, Front, IsLinkKey, call_of, handed_on, is_property, tested_front}
-use Rattle.rl_lowered.specs.Forms.{Lent, MemberKey, applied_by, load_of, store_of, type_of, typed}
+use Rattle.rl_lowered.specs.Forms.{IsAnnotation, IsCast, IsDefaulted, IsForm, IsLiteral, IsMember, IsPrivate, IsRefused, IsRefusing}
+use Rattle.rl_lowered.specs.Forms.{Alone, Front, IsLinkKey, IsWrapper, Lent, MemberKey, applied_by, call_of, handed_on, is_property}
+use Rattle.rl_lowered.specs.Forms.{load_of, store_of, tested_front, type_of, typed}
+use Rattle.rl_lowered.specs.Items.{BoundItems, IsBinding, IsTaking, Later, LoweredAhead, TakenItems, destructured, form_piece}
+pub use Rattle.rl_lowered.specs.Items.{caught}
+use Rattle.rl_lowered.specs.Items.{met}
+pub use Rattle.rl_lowered.specs.Items.{found_again, promoted, redeclared, variable_at}
 use Rattle.rl_lowered.specs.Named.{IsFound, found}
+pub use Rattle.rl_lowered.specs.Parts.{label_part, part_span}
+pub use Rattle.rl_lowered.specs.Updates.{private_met, update_of, member_loaded, member_one, binary_of, member_updated}
+pub use Rattle.rl_lowered.specs.Updates.{member_stored, member_result, assigned_to, name_computed, name_found}
+pub use Rattle.rl_lowered.specs.Updates.{name_stored, name_reloaded, member_computed, member_assigned, value_span}
 use Rattle.rl_model.specs.Actions.{Label}
 use Rattle.rl_model.specs.Shapes.{is_absent, is_computed, key_text, said}
 use Rattle.rl_names.specs.Names.{Names}
 use Rattle.rl_names.specs.declared.names.Meaning.TheVariants.{Local, Outer}
-use Rattle.rl_optional_frames.specs.Frames.{link_after, link_at, link_ended, link_objected}
-use Rattle.rl_optional_frames.specs.Parts.{link_opened}
+use Rattle.rl_optional_frames.specs.Frames.{default_at, default_ended, link_after, link_at, link_ended, link_objected}
+use Rattle.rl_optional_frames.specs.Parts.{default_begun, link_opened}
 use Rattle.rl_promises.specs.Jumps.{is_loop}
 use Rattle.rl_promises.specs.Moved.{may_move, type_name}
 use Rattle.rl_promises.specs.Outs.{is_known_key, is_lost_head}
+use Rattle.rl_promises.specs.Patterns.{is_pattern, takes_apart}
 use Rattle.rl_promises.specs.Rows.{is_eval, refusal, row_of_head}
 use Rattle.rl_rules.specs.Chains.{has_optional}
 use Rattle.rl_runs.specs.Moves.{block_id, next_hole, return_of, returned_from, threw_from}
@@ -76,80 +81,6 @@ use Rattle.rl_syntax.specs.declared.word.Word.{Word}
 use Rattle.rl_syntax.specs.declared.word.Word.TheVariants as word
 use Rattle.rl_syntax.specs.Syntax.{Syntax, Node, Listed, Said, Flag, Absent, Pieces, End, Then, span_of}
 use Rattle.rl_text.specs.Numeral.{is_numeral}
-
--- The state behind the refusal of a private name (row F3).
-abbrev pub private_met : State → (at : Span) → State
-private_met s at = recorded s (refusal row.F3 at)
-
--- The value of an update of a variable.
-abbrev pub update_of : (prefix : Bool) → UpdateOperator → (variable : Place) → InstructionValue
-update_of true operator variable = values.PrefixUpdate operator variable variable
-update_of false operator variable = values.PostfixUpdate operator variable variable
-
--- The states of an update of a property: the old value is loaded, 1 is made, the new value is computed, and stored.
-
-abbrev pub member_loaded : State → (object : Place) → MemberKey → Span → State
-member_loaded t object key there = with_value t (load_of object key) (Some there)
-
-abbrev pub member_one : State → (object : Place) → MemberKey → Span → State
-member_one t object key there = with_value (member_loaded t object key there) (values.Primitive (primitives.Number 1)) None
-
-abbrev pub binary_of : UpdateOperator → BinaryOperator
-binary_of updates.Increment = binaries.Addition
-binary_of updates.Decrement = binaries.Subtraction
-
-abbrev pub member_updated : State → (object : Place) → MemberKey → UpdateOperator → Span → State
-member_updated t object key operator there =
-    with_value (member_one t object key there)
-    (values.BinaryExpression (binary_of operator) (temporary t (Some there)) (temporary (member_loaded t object key there) None)) (Some there)
-
-abbrev pub member_stored : State → (object : Place) → MemberKey → UpdateOperator → Span → State
-member_stored t object key operator there =
-    with_value (member_updated t object key operator there)
-    (store_of object key (temporary (member_one t object key there) (Some there))) (Some there)
-
--- The value of the update: the new one, or the old one behind which the operator stands.
-abbrev pub member_result : State → (object : Place) → MemberKey → UpdateOperator → (prefix : Bool) → Span → Place
-member_result t object key operator true there = temporary (member_updated t object key operator there) (Some there)
-member_result t object key operator false there = temporary t (Some there)
-
--- The place of a variable at a name.
-abbrev pub variable_at : (identifier : ℕ) → Span → Place
-variable_at identifier there = record { identifier = record { 0 = identifier }; span = Some there }
-
--- The value of an assignment to a variable.
-abbrev pub assigned_to : (identifier : ℕ) → Span → (value : Place) → InstructionValue
-assigned_to identifier there value = values.StoreLocal kinds.Reassign (variable_at identifier there) value
-
--- The states of a compound assignment to a name at `there`, behind the value `p` of its right part: the new value of the old one, `q`, is
--- computed; a variable is looked up, stored to and loaded again, and any other name is stored to.
-
-abbrev pub name_computed : State → BinaryOperator → (q p : Place) → (at : Span) → State
-name_computed u operator q p at = with_value u (values.BinaryExpression operator q p) (Some at)
-
-abbrev pub name_found : Names → State → BinaryOperator → (q p : Place) → (at there : Span) → SymbolId → State
-name_found names u operator q p at there symbol = found names (name_computed u operator q p at) symbol there
-
-abbrev pub name_stored : Names → State → BinaryOperator → (q p : Place) → (at there : Span) → SymbolId → (identifier : ℕ) → State
-name_stored names u operator q p at there symbol identifier =
-    with_value (name_found names u operator q p at there symbol) (assigned_to identifier there (temporary u (Some at))) (Some at)
-
-abbrev pub name_reloaded : Names → State → BinaryOperator → (q p : Place) → (at there : Span) → SymbolId → (identifier : ℕ) → State
-name_reloaded names u operator q p at there symbol identifier =
-    with_value (name_stored names u operator q p at there symbol identifier) (values.LoadLocal (variable_at identifier there)) (Some at)
-
--- As `name_computed`, for a property: the old value was loaded from the state `t`; and the state behind the store.
-
-abbrev pub member_computed : (t u : State) → BinaryOperator → (p : Place) → (there : Span) → State
-member_computed t u operator p there = with_value u (values.BinaryExpression operator (temporary t (Some there)) p) (Some there)
-
-abbrev pub member_assigned : (t u : State) → (object : Place) → MemberKey → BinaryOperator → (p : Place) → (there : Span) → State
-member_assigned t u object key operator p there =
-    with_value (member_computed t u operator p there) (store_of object key (temporary u (Some there))) (Some there)
-
--- The span of a part's value, and that of the part where its value has none.
-abbrev pub value_span : (value : Place) → (part : Syntax) → Span
-value_span value part = unwrap_or value.span (span_of part)
 
 mutual
   -- An expression was lowered between two states, and its value is in the place.
@@ -242,6 +173,11 @@ mutual
         (Then (Node there word.Privatemember (Then (Flag false) (Then object (Then (Said name) End)))) (Then right End)))) s
         (with_value (recorded u (refusal row.F5 at.span)) (values.Primitive primitives.Undefined) (Some at.span))
         (temporary (recorded u (refusal row.F5 at.span)) (Some at.span))
+    -- `=` to a pattern, which takes the value apart.
+    AssignedPattern : (at there : At) (w : Word) (fields : Pieces) (right : Syntax) (s t u : State) (p q : Place)
+        → is_pattern (Node there w fields) ≡ true → Lowered names right s t p
+        → LoweredTarget names there.span p (Node there w fields) t u q
+        → Lowered names (Node at word.Assign (Then (Said (codes "=")) (Then (Node there w fields) (Then right End)))) s u q
     -- A compound assignment to a local variable, which is loaded before its right part is lowered.
     CompoundVariable : (at there : At) (name : List ℕ) (operator : AssignmentOperator) (applied : BinaryOperator) (right : Syntax)
         (symbol : SymbolId) (identifier : ℕ) (s t u : State) (q p : Place)
@@ -346,6 +282,66 @@ mutual
     -- An optional chain.
     Chain : (at : At) (e : Syntax) (s t : State) (p : Place) → LoweredSpine names false e s t p
         → Lowered names (Node at word.Chain (Then e End)) s t p
+
+  -- A default was lowered. One that may not be evaluated in another place is refused (row F29).
+  pub data LoweredMoved (names : Names) : Syntax → (old new : State) → Place → Type 0 where
+    Stays : (e : Syntax) (s t : State) (p : Place) → may_move names e ≡ true → Lowered names e s t p → LoweredMoved names e s t p
+    Moved : (at : At) (w : Word) (fields : Pieces) (s t : State) (p : Place) → may_move names (Node at w fields) ≡ false
+        → Lowered names (Node at w fields) (recorded s (diagnostic_at row.F29 (type_name w) at.span)) t p
+        → LoweredMoved names (Node at w fields) s t p
+
+  -- A target took `value`; its instruction has the span `at`. The place is that of the instruction, or `value` where nothing is stored.
+  pub data LoweredTarget (names : Names) : (at : Span) → (value : Place) → (target : Syntax) → (old new : State) → Place → Type 0 where
+    -- A local variable.
+    TargetVariable : {at : Span} {value : Place} (there : At) (name : List ℕ) (symbol : SymbolId) (identifier : ℕ) (s : State)
+        → names.meaning there.reference.0 name ≡ Local symbol → names.is_const symbol.0 ≡ false
+        → IsFound names s symbol there.span identifier
+        → LoweredTarget names at value (Node there word.Id (Then (Said name) End)) s
+        (with_value (found names s symbol there.span) (assigned_to identifier at value) (Some at))
+        (temporary (found names s symbol there.span) (Some at))
+    -- A constant (row F6).
+    TargetConstant : {at : Span} {value : Place} (there : At) (name : List ℕ) (symbol : SymbolId) (identifier : ℕ) (s : State)
+        → names.meaning there.reference.0 name ≡ Local symbol → names.is_const symbol.0 ≡ true
+        → IsFound names s symbol there.span identifier
+        → LoweredTarget names at value (Node there word.Id (Then (Said name) End)) s
+        (recorded (found names s symbol there.span) (diagnostic_at row.F6 (names.name symbol.0) there.span)) value
+    -- Any other name.
+    TargetGlobal : {at : Span} {value : Place} (there : At) (name : List ℕ) (binding : NonLocalBinding) (s : State)
+        → names.meaning there.reference.0 name ≡ Outer binding
+        → LoweredTarget names at value (Node there word.Id (Then (Said name) End)) s
+        (with_value s (values.StoreGlobal name value) (Some at)) (temporary s (Some at))
+    -- A property.
+    TargetMember : {at : Span} {value : Place} (there : At) (w : Word) (fields parts : Pieces) (pieces : List Piece) (object : Place)
+        (key : MemberKey) (s t : State)
+        → IsMember w fields parts pieces object key → LoweredParts names false parts s t pieces
+        → LoweredTarget names at value (Node there w fields) s
+        (with_value t (store_of object key value) (Some at)) (temporary t (Some at))
+    -- A property of a private name, or a target under a wrapper (rows F11 and F45).
+    TargetLost : {at : Span} {value : Place} (there : At) (w : Word) (fields : Pieces) (s : State)
+        → is_lost_head (Node there w fields) ≡ true
+        → LoweredTarget names at value (Node there w fields) s (recorded s (refusal (row_of_head w) there.span)) value
+    -- A target with a default, which the value passes first.
+    TargetDefaulted : {at : Span} {value : Place} (there : At) (w : Word) (fields : Pieces) (target default : Syntax) (s t u : State)
+        (q p : Place)
+        → IsDefaulted w fields target default → LoweredMoved names default (default_begun s there.span) t q
+        → LoweredTarget names there.span (temporary s (Some there.span)) target
+        (default_ended (default_at s there.span value) t q) u p
+        → LoweredTarget names at value (Node there w fields) s u p
+    -- A pattern: its names are looked at, its items get places, the value is taken apart, and the parts that are left take their pieces.
+    TargetPattern : {at : Span} {value : Place} (there : At) (w : Word) (of_object forced : Bool) (items : Pieces) (rest : Syntax)
+        (pattern : Pattern) (pieces : List Piece) (later : List Later) (s t u v : State)
+        → IsTaking w of_object → LoweredAhead names items rest s t forced
+        → TakenItems names of_object forced items rest t u pieces later
+        → pattern_pieces pattern ≡ form_piece of_object ∷ pieces
+        → LoweredLater names later (with_value u (destructured kinds.Reassign pattern value) (Some at)) v
+        → LoweredTarget names at value (Node there w (Then (Listed items) (Then rest End))) s v (temporary u (Some at))
+
+  -- Parts that were left took their pieces, in order.
+  pub data LoweredLater (names : Names) : List Later → (old new : State) → Type 0 where
+    NoLater : (s : State) → LoweredLater names [] s s
+    NextLater : (value : Place) (part : Syntax) (later : List Later) (s t u : State) (p : Place)
+        → LoweredTarget names (span_of part) value part s t p → LoweredLater names later t u
+        → LoweredLater names (record { value = value; part = part } ∷ later) s u
 
   -- The spine of a chain was lowered from its outermost link; `below` is true of one below a link of another chain, where a `!` is refused
   -- (row F44).
@@ -467,6 +463,63 @@ abbrev pub declaring : State → VariableKind → Span → State
 declaring s variables.Var at = recorded s (refusal row.F39 at)
 declaring s _ at = s
 
+mutual
+  -- A binding pattern took `value`: its variables are of the kind `k`, and its instruction has the span `at`. The place is that of the
+  -- instruction.
+  pub data LoweredPattern (names : Names) (again : Bool) (k : InstructionKind) : (at : Span) → (value : Place) → (pattern : Syntax)
+      → (old new : State) → Place → Type 0 where
+    BoundName : {at : Span} {value : Place} (bind : At) (name : List ℕ) (type : Syntax) (symbol : SymbolId) (identifier : ℕ) (s : State)
+        → IsAnnotation type → names.declared bind.id.0 ≡ Some symbol → IsFound names s symbol bind.span identifier
+        → LoweredPattern names again k at value (Node bind word.Bind (Then (Said name) (Then type End))) s
+        (with_value (met again names s symbol identifier bind.span) (values.StoreLocal k (variable_at identifier at) value) (Some at))
+        (temporary (met again names s symbol identifier bind.span) (Some at))
+    BoundDefault : {at : Span} {value : Place} (there : At) (pattern default : Syntax) (s t u : State) (q p : Place)
+        → LoweredMoved names default (default_begun s there.span) t q
+        → LoweredPattern names again k there.span (temporary s (Some there.span)) pattern
+        (default_ended (default_at s there.span value) t q) u p
+        → LoweredPattern names again k at value (Node there word.Defaultpat (Then pattern (Then default End))) s u p
+    BoundPattern : {at : Span} {value : Place} (there : At) (w : Word) (of_object : Bool) (items : Pieces) (rest : Syntax)
+        (pattern : Pattern) (pieces : List Piece) (later : List Later) (s u v : State)
+        → IsBinding w of_object → BoundItems names again of_object items rest s u pieces later
+        → pattern_pieces pattern ≡ form_piece of_object ∷ pieces
+        → LoweredBound names again k later (with_value u (destructured k pattern value) (Some at)) v
+        → LoweredPattern names again k at value (Node there w (Then (Listed items) (Then rest End))) s v (temporary u (Some at))
+
+  -- As `LoweredLater`, for parts of a binding pattern.
+  pub data LoweredBound (names : Names) (again : Bool) (k : InstructionKind) : List Later → (old new : State) → Type 0 where
+    NothingBound : (s : State) → LoweredBound names again k [] s s
+    NextBound : (value : Place) (part : Syntax) (later : List Later) (s t u : State) (p : Place)
+        → LoweredPattern names again k (span_of part) value part s t p → LoweredBound names again k later t u
+        → LoweredBound names again k (record { value = value; part = part } ∷ later) s u
+
+-- Parameters were lowered in order, and stand in the graph as these.
+pub data LoweredParams (names : Names) : (params : Pieces) → (rest : Syntax) → (old new : State) → List Param → Type 0 where
+  NoParam : (s : State) → LoweredParams names End Absent s s []
+  RestParam : (there : At) (pattern : Syntax) (s t : State) (p : Place)
+      → LoweredPattern names false kinds.Let there.span (temporary s (Some there.span)) pattern (with_temporary s (Some there.span)) t p
+      → LoweredParams names End (Node there word.Rest (Then pattern End)) s t (params.Spread (temporary s (Some there.span)) ∷ [])
+  -- A name, which takes its argument itself.
+  PlainParam : (there bind : At) (name : List ℕ) (type rest : Syntax) (more : Pieces) (symbol : SymbolId) (identifier : ℕ) (s t : State)
+      (ps : List Param)
+      → IsAnnotation type → names.declared bind.id.0 ≡ Some symbol → IsFound names s symbol bind.span identifier
+      → LoweredParams names more rest (found names s symbol bind.span) t ps
+      → LoweredParams names
+      (Then (Node there word.Param (Then (Node bind word.Bind (Then (Said name) (Then type End))) (Then Absent End))) more) rest s t
+      (params.Place (variable_at identifier bind.span) ∷ ps)
+  PatternParam : (there : At) (pattern rest : Syntax) (more : Pieces) (s t u : State) (p : Place) (ps : List Param)
+      → takes_apart pattern ≡ true
+      → LoweredPattern names false kinds.Let there.span (caught s there.span) pattern (promoted s there.span) t p
+      → LoweredParams names more rest t u ps
+      → LoweredParams names (Then (Node there word.Param (Then pattern (Then Absent End))) more) rest s u
+      (params.Place (caught s there.span) ∷ ps)
+  DefaultParam : (there : At) (pattern default rest : Syntax) (more : Pieces) (s t u v : State) (q p : Place) (ps : List Param)
+      → LoweredMoved names default (default_begun (promoted s there.span) there.span) t q
+      → LoweredPattern names false kinds.Let there.span (temporary (promoted s there.span) (Some there.span)) pattern
+      (default_ended (default_at (promoted s there.span) there.span (caught s there.span)) t q) u p
+      → LoweredParams names more rest u v ps
+      → LoweredParams names (Then (Node there word.Param (Then pattern (Then default End))) more) rest s v
+      (params.Place (caught s there.span) ∷ ps)
+
 -- Declarators were lowered in order, in a declaration with the span `at`, of variables of the kind `k`.
 pub data LoweredDeclarators (names : Names) (at : Span) (k : InstructionKind) : Pieces → (old new : State) → Type 0 where
   NoDeclarator : (s : State) → LoweredDeclarators names at k End s s
@@ -485,16 +538,15 @@ pub data LoweredDeclarators (names : Names) (at : Span) (k : InstructionKind) : 
       (values.StoreLocal k (record { identifier = record { 0 = identifier }; span = Some at }) p) (Some at)) u
       → LoweredDeclarators names at k
       (Then (Node there word.Declarator (Then (Node bind word.Bind (Then (Said name) (Then type End))) (Then init End))) more) s u
-
--- The label of a jump as a part of its node.
-abbrev pub label_part : Label → Syntax
-label_part None = Absent
-label_part (Some label) = Said label
-
--- The span of a part of a loop, or that of the loop where the part is absent.
-abbrev pub part_span : (loop : Span) → Syntax → Span
-part_span loop Absent = loop
-part_span loop part = span_of part
+  -- A pattern takes the value of its initializer. One without an initializer, which by rule B7 is that of a loop's head, takes undefined.
+  NextTakenApart : (there : At) (pattern init : Syntax) (more : Pieces) (s t u v : State) (p q : Place)
+      → takes_apart pattern ≡ true → is_absent init ≡ false → Lowered names init s t p
+      → LoweredPattern names false k at p pattern t u q → LoweredDeclarators names at k more u v
+      → LoweredDeclarators names at k (Then (Node there word.Declarator (Then pattern (Then init End))) more) s v
+  NextUntaken : (there : At) (pattern : Syntax) (more : Pieces) (s u v : State) (q : Place) → takes_apart pattern ≡ true
+      → LoweredPattern names false k at (temporary s (Some at)) pattern (with_value s (values.Primitive primitives.Undefined) (Some at)) u q
+      → LoweredDeclarators names at k more u v
+      → LoweredDeclarators names at k (Then (Node there word.Declarator (Then pattern (Then Absent End))) more) s v
 
 -- The test of a `for` loop with the span `at` was lowered: an absent one is refused (row F32), and true stands for it.
 pub data LoweredTest (names : Names) (at : Span) : Syntax → (old new : State) → Place → Type 0 where
@@ -503,15 +555,6 @@ pub data LoweredTest (names : Names) (at : Span) : Syntax → (old new : State) 
       (with_value (recorded s (refusal row.F32 at)) (values.Primitive (primitives.Boolean true)) (Some at))
       (temporary (recorded s (refusal row.F32 at)) (Some at))
   Tested : (e : Syntax) (s t : State) (p : Place) → Lowered names e s t p → LoweredTest names at e s t p
-
--- The state behind a declaration whose identifier gets another span.
-abbrev pub redeclared : State → (identifier : ℕ) → Span → State
-redeclared s identifier span =
-    record s { env = record s.env { identifiers = changed_at (with_span span) identifier s.env.identifiers } }
-
--- The state behind the look-up of a variable that the head of a loop declares.
-abbrev pub found_again : Names → State → SymbolId → (identifier : ℕ) → Span → State
-found_again names s symbol identifier span = redeclared (found names s symbol span) identifier span
 
 -- The head of a `for`-`in` or `for`-`of` loop was lowered, which gives `value` to a variable or a property. The place is that of the
 -- test behind it: the store's, or `value` where nothing is stored.
@@ -549,6 +592,15 @@ pub data LoweredHead (names : Names) (value : Place) : (head : Syntax) → (old 
       → IsMember w fields parts pieces object key → LoweredParts names false parts s t pieces
       → LoweredHead names value (Node at w fields) s
       (with_value t (store_of object key value) (Some at.span)) (temporary t (Some at.span))
+  -- A declaration of a pattern.
+  DeclaredPattern : (at there : At) (kind : List ℕ) (pattern : Syntax) (s t : State) (p : Place) → takes_apart pattern ≡ true
+      → LoweredPattern names true kinds.Let at.span value pattern s t p
+      → LoweredHead names value
+      (Node at word.Var (Then (Said kind) (Then (Listed (Then (Node there word.Declarator (Then pattern (Then Absent End))) End)) End)))
+      s t p
+  -- A pattern.
+  StoredPattern : (at : At) (w : Word) (fields : Pieces) (s t : State) (p : Place) → is_pattern (Node at w fields) ≡ true
+      → LoweredTarget names at.span value (Node at w fields) s t p → LoweredHead names value (Node at w fields) s t p
   -- A property of a private name, or a target under a wrapper (rows F11 and F45).
   Lost : (at : At) (w : Word) (fields : Pieces) (s : State) → is_lost_head (Node at w fields) ≡ true
       → LoweredHead names value (Node at w fields) s (recorded s (refusal (row_of_head w) at.span)) value
@@ -562,28 +614,8 @@ throwing_under (Some handler) s at = recorded s (refusal row.F30 at)
 abbrev pub throwing : State → Span → State
 throwing s at = throwing_under (innermost s.handlers) s at
 
--- The identifier of a promoted temporary, by its id.
-abbrev pub promoted_identifier : (id : ℕ) → (type_id : ℕ) → Span → Identifier
-promoted_identifier id type_id span = record {
-  name = Some (identifiers.Promoted (codes "#t" ++ decimal id));
-  span = Some span;
-  type_id = record { 0 = type_id };
-}
-
--- The state with one more identifier, which has a name of its own.
-abbrev pub promoted : State → Span → State
-promoted s span = record s {
-  env = record s.env {
-    next_type = s.env.next_type + 1;
-    identifiers = s.env.identifiers ++ promoted_identifier (length s.env.identifiers) s.env.next_type span ∷ [];
-  };
-}
-
--- A `catch` whose parameter is a variable, at the span `param`: the place that takes the caught value, the parts of the frame behind that,
--- the state in which the hole of the handler opens, and the one behind the store of the value to the variable.
-
-abbrev pub caught : State → (param : Span) → Place
-caught s param = temporary s (Some param)
+-- A `catch` whose parameter is a variable, at the span `param`: the parts of the frame behind the place that takes the caught value, the
+-- state in which the hole of the handler opens, and the one behind the store of the value to the variable.
 
 abbrev pub catch_at : State → (at param : Span) → TryParts
 catch_at s at param = try_at (promoted s param) at (Some (caught s param))
