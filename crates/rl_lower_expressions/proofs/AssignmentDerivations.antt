@@ -19,7 +19,8 @@ use Rattle.rl_hir.specs.declared.instruction.PrimitiveValue.TheVariants as primi
 use Rattle.rl_lower_expressions.specs.declared.member.LoweredMember.{LoweredMember}
 use Rattle.rl_lowered.specs.Forms.{IsRefused, applied_by, load_of, store_of}
 use Rattle.rl_lowered.specs.Forms as forms
-use Rattle.rl_lowered.specs.Lowered.{Lowered, assigned_to, name_computed, name_found, name_stored, variable_at}
+use Rattle.rl_lowered.specs.Items.{variable_at}
+use Rattle.rl_lowered.specs.Lowered.{Lowered, assigned_to, name_computed, name_found, name_stored}
 use Rattle.rl_lowered.specs.Lowered as lowered
 use Rattle.rl_lowered.specs.Named.{IsFound, found}
 use Rattle.rl_lowered.specs.Promised.{LowersExpression}
@@ -31,12 +32,16 @@ use Rattle.rl_syntax.specs.declared.numbered.At.{At}
 use Rattle.rl_syntax.specs.declared.word.Word.{Word}
 use Rattle.rl_syntax.specs.declared.word.Word.TheVariants as word
 use Rattle.rl_syntax.specs.Syntax.{Syntax, Node, Said, Flag, Pieces, End, Then}
-use Rattle.rl_lower_expressions.proofs.Derivations.{derived}
+use Rattle.rl_lower_parts.proofs.Derivations.{derived}
 use Rattle.rl_lower_expressions.specs.Members.{LowersMember, key_of}
 
 -- A name.
 abbrev pub name_at : (there : At) → (name : List ℕ) → Syntax
 name_at there name = Node there word.Id (Then (Said name) End)
+
+-- A property of a private name.
+abbrev pub private_at : (there : At) → (object : Syntax) → (name : List ℕ) → Syntax
+private_at there object name = Node there word.Privatemember (Then (Flag false) (Then object (Then (Said name) End)))
 
 -- An assignment by `=`.
 abbrev pub assignment : (at : At) → (target right : Syntax) → Syntax
@@ -148,7 +153,8 @@ assigned_private_ok at (Err e) new is l m moved placed = tt
 -- Stores by an operator.
 
 pub compound_variable_ok : {computed mid stored : State} {updated : Place} {store : InstructionValue} (u : State)
-    (r : Result Place Stop) (names : Names) (at there : At) (symbol : SymbolId) (identifier : ℕ) (applied : BinaryOperator) (q p : Place) (new : State)
+    (r : Result Place Stop) (names : Names) (at there : At) (symbol : SymbolId) (identifier : ℕ) (applied : BinaryOperator) (q p : Place)
+    (new : State)
     → names.is_const symbol.0 ≡ false → computed ≡ name_computed u applied q p at.span → updated ≡ temporary u (Some at.span)
     → mid ≡ found names computed symbol there.span → IsFound names computed symbol there.span identifier
     → store ≡ assigned_to identifier there.span updated → stored ≡ with_value mid store (Some at.span)
@@ -244,6 +250,16 @@ compound_name_ok {shown} {target} {right} {s} {t} {u} names at applied new (Ok p
     subst (λ (n : Syntax). LowersExpression names (compound at operator n right) s new place) is (updates operator right s t applies l m)
 compound_name_ok names at applied new (Err e) is l m updates = tt
 
+pub compound_shown : {shown target : Syntax} (names : Names) (at : At) (applied : BinaryOperator) (right : Syntax) (s new : State)
+    (r : Result Place Stop) → shown ≡ target
+    → IfOk r (λ place. (operator : AssignmentOperator) → applied_by operator ≡ Some applied
+    → LowersExpression names (compound at operator shown right) s new place)
+    → IfOk r (λ place. (operator : AssignmentOperator) → applied_by operator ≡ Some applied
+    → LowersExpression names (compound at operator target right) s new place)
+compound_shown names at applied right s new (Ok place) is l = λ operator applies.
+    subst (λ (n : Syntax). LowersExpression names (compound at operator n right) s new place) is (l operator applies)
+compound_shown names at applied right s new (Err e) is l = tt
+
 -- A property, whose old value is loaded before the right part is lowered.
 pub compound_member_ok : {names : Names} {right : Syntax} {load : InstructionValue} {loaded u computed : State} {old p updated : Place}
     (t : State) (there : At) (applied : BinaryOperator) (m : LoweredMember) (r : Result Place Stop) (new : State)
@@ -288,19 +304,28 @@ compound_target_ok {names} {target} {there} {w} {fields} {s} {t} at right applie
 compound_target_ok at right applied m new (Err e) is parts updates = tt
 
 -- A property of a private name.
-pub compound_private_ok : {names : Names} {target right : Syntax} {there : At} {fields : Pieces} {s t u : State} {q p : Place} (at : At)
-    (applied : BinaryOperator) (r : Result Place Stop) (new : State) → Node there word.Privatemember fields ≡ target
-    → LowersExpression names (Node there word.Privatemember fields) s t q → LowersExpression names right t u p
+pub compound_private_ok : {names : Names} {right object : Syntax} {s t u : State} {q p : Place} (at there : At) (r : Result Place Stop)
+    (new : State) → ((name : List ℕ) → LowersExpression names (private_at there object name) s t q) → LowersExpression names right t u p
     → OnOk r (new ≡ with_value u (values.Primitive primitives.Undefined) (Some at.span))
     → IfOk r (λ place. place ≡ temporary u (Some at.span))
+    → IfOk r (λ place. (name : List ℕ) (operator : AssignmentOperator) (applied : BinaryOperator) → applied_by operator ≡ Some applied
+    → LowersExpression names (compound at operator (private_at there object name) right) s new place)
+compound_private_ok {names} {right} {object} {s} {t} {u} {q} {p} at there (Ok place) new l m moved placed = λ name operator applied applies.
+    let tree : Syntax = compound at operator (private_at there object name) right in
+    derived tree tree s _ new _ place refl moved placed
+    (lowered.CompoundPrivate at there (Then (Flag false) (Then object (Then (Said name) End))) operator applied right s t u q p applies
+    (l name).by m.by)
+compound_private_ok at there (Err e) new l m moved placed = tt
+
+pub compound_private_told : {target object : Syntax} (names : Names) (at there : At) (name : List ℕ) (applied : BinaryOperator)
+    (right : Syntax) (s new : State) (r : Result Place Stop) → private_at there object name ≡ target
+    → IfOk r (λ place. (name : List ℕ) (operator : AssignmentOperator) (applied : BinaryOperator) → applied_by operator ≡ Some applied
+    → LowersExpression names (compound at operator (private_at there object name) right) s new place)
     → IfOk r (λ place. (operator : AssignmentOperator) → applied_by operator ≡ Some applied
     → LowersExpression names (compound at operator target right) s new place)
-compound_private_ok {names} {target} {right} {there} {fields} {s} {t} {u} {q} {p} at applied (Ok place) new is l m moved placed =
-    λ operator applies.
-    derived (compound at operator target right) (compound at operator (Node there word.Privatemember fields) right) s _ new _ place
-    (ap (λ (n : Syntax). compound at operator n right) is) moved placed
-    (lowered.CompoundPrivate at there fields operator applied right s t u q p applies l.by m.by)
-compound_private_ok at applied (Err e) new is l m moved placed = tt
+compound_private_told names at there name applied right s new (Ok place) is l = λ operator applies.
+    subst (λ (n : Syntax). LowersExpression names (compound at operator n right) s new place) is (l name operator applied applies)
+compound_private_told names at there name applied right s new (Err e) is l = tt
 
 -- Operators.
 

@@ -1,5 +1,5 @@
 -- Derivations of optional chains, from the moves of their lowering, and the room and the names in the holes of links.
-use Rattle.std.proofs.Common.{◌≡◌, ℕ, ◌+◌, ◌≤◌, ◌&&◌, true, false, Bool, List, [], ◌∷◌, Option, Some, None, Result, Ok, Err, OnOk, IfOk}
+use Rattle.std.proofs.Common.{◌≡◌, ℕ, ◌+◌, ◌≤◌, ◌&&◌, true, false, Bool, List, Option, Some, None, Result, Ok, Err, OnOk, IfOk}
 use Rattle.std.proofs.Common.{refl, ap, sym, ◌∙◌, subst, true≢false, arith}
 use Rattle.rl_base.specs.declared.ids.BlockId.{BlockId}
 use Rattle.rl_base.specs.declared.row.Row.TheVariants as row
@@ -13,9 +13,9 @@ use Rattle.rl_hir.specs.declared.instruction.InstructionValue.TheVariants as val
 use Rattle.rl_hir.specs.declared.instruction.Place.{Place}
 use Rattle.rl_hir.specs.declared.instruction.PlaceOrSpread.{PlaceOrSpread}
 use Rattle.rl_hir.specs.declared.instruction.PrimitiveValue.TheVariants as primitives
-use Rattle.rl_lower_expressions.proofs.Derivations.{derived}
-use Rattle.rl_lower_expressions.proofs.MemberDerivations.{grown}
-use Rattle.rl_lower_expressions.specs.Groups.{is_assertion}
+use Rattle.rl_lower_parts.proofs.Derivations.{derived}
+use Rattle.rl_lower_parts.proofs.Derivations.{grown}
+use Rattle.rl_lower_parts.specs.Shapes.{is_assertion}
 use Rattle.rl_lower_expressions.specs.Links.{LowersKey, OpensLink, front_of, refused_below}
 use Rattle.rl_lower_expressions.specs.Members.{LowersMember, key_of}
 use Rattle.rl_lower_expressions.specs.declared.chain.Front as fronts
@@ -24,11 +24,11 @@ use Rattle.rl_lower_expressions.specs.declared.chain.LoweredLink as links
 use Rattle.rl_lower_expressions.specs.declared.chain.OpenLink.{OpenLink}
 use Rattle.rl_lower_expressions.specs.declared.member.LoweredMember.{LoweredMember}
 use Rattle.rl_lower_expressions.specs.declared.member.MemberProperty.{MemberProperty}
-use Rattle.rl_lowered.proofs.Names.{names_link_opened, names_recorded, names_same}
+use Rattle.rl_lowered.proofs.Names.{names_link_opened, names_same}
 use Rattle.rl_lowered.proofs.Told.{told_front, told_link, told_spine}
 use Rattle.rl_lowered.specs.Forms.{Alone, Front, IsLinkKey, MemberKey, call_of, handed_on, is_property, load_of, tested_front}
 use Rattle.rl_lowered.specs.Forms as forms
-use Rattle.rl_lowered.specs.Lowered.{Lowered, LoweredAll, LoweredFront, LoweredLink, LoweredSpine, private_met}
+use Rattle.rl_lowered.specs.Lowered.{LoweredAll, LoweredFront, LoweredLink, LoweredSpine, private_met}
 use Rattle.rl_lowered.specs.Lowered as lowered
 use Rattle.rl_lowered.specs.Named.{IsNamed}
 use Rattle.rl_lowered.specs.Promised.{HasRoom, LowersAll, LowersExpression, LowersFront, LowersLink, LowersSpine, share}
@@ -208,16 +208,6 @@ asserted_ok {tree} {e} {at} {t} names false s new (Ok place) is optional noted l
     told_spine (subst (λ (n : Syntax). LoweredSpine names false n s new place) is
     (lowered.Asserted at e s new place (subst (λ (o : State). LoweredSpine names false e o new place) noted l.by)))
 asserted_ok names below s new (Err e) is optional noted l = tt
-
-pub below_named : {names : Names} (below : Bool) (s t : State) (at : Span) → t ≡ refused_below below s at → IsNamed names s
-    → IsNamed names t
-below_named {names} true s t at noted named = subst (IsNamed names) (sym noted) ((names_recorded s _).named named)
-below_named {names} false s t at noted named = subst (IsNamed names) (sym noted) named
-
-pub below_room : (below : Bool) (s t : State) (at : Span) (more all : ℕ) → t ≡ refused_below below s at → more ≤ all → HasRoom s all
-    → HasRoom t more
-below_room true s t at more all noted fits room = subst (λ (o : State). HasRoom o more) (sym noted) (omega (arith, fits, room))
-below_room false s t at more all noted fits room = subst (λ (o : State). HasRoom o more) (sym noted) (omega (arith, fits, room))
 
 -- A chain.
 pub chain_ok : {tree e : Syntax} {at : At} (names : Names) (s new : State) (r : Result Place Stop)

@@ -18,12 +18,15 @@ use Rattle.rl_hir.specs.declared.instruction.PrimitiveValue.TheVariants as primi
 use Rattle.rl_hir.specs.declared.instruction.RegExpLiteral.{RegExpLiteral}
 use Rattle.rl_hir.specs.declared.instruction.TemplateLiteral.{TemplateLiteral}
 use Rattle.rl_hir.specs.declared.instruction.TemplateQuasi.{TemplateQuasi}
+use Rattle.rl_lower_parts.proofs.Derivations.{derived, grown, room_after}
+use Rattle.rl_lower_parts.proofs.Gathered.{gathered_more}
 use Rattle.rl_lowered.proofs.Told.{told, told_all, told_properties}
 use Rattle.rl_lowered.specs.Forms.{AreQuasis, IsForm, IsLiteral, IsPrivate, IsRefused, IsRefusing, IsWrapper}
 use Rattle.rl_lowered.specs.Forms as forms
 use Rattle.rl_lowered.specs.Lowered.{Lowered, LoweredAll, LoweredLast, LoweredParts, LoweredProperties}
 use Rattle.rl_lowered.specs.Lowered as lowered
-use Rattle.rl_lowered.specs.Promised.{HasRoom, LowersAll, LowersExpression, LowersProperties}
+use Rattle.rl_lowered.specs.Named.{IsNamed}
+use Rattle.rl_lowered.specs.Promised.{HasRoom, LowersAll, LowersExpression, LowersProperties, share}
 use Rattle.rl_model.specs.Shapes.{are_raw, is_computed, key_text, said}
 use Rattle.rl_names.specs.Names.{Names}
 use Rattle.rl_promises.specs.CoveredWords.{covers}
@@ -35,24 +38,11 @@ use Rattle.rl_runs.specs.Blocks.{size_of}
 use Rattle.rl_syntax.specs.declared.numbered.At.{At}
 use Rattle.rl_syntax.specs.declared.word.Word.{Word}
 use Rattle.rl_syntax.specs.declared.word.Word.TheVariants as word
-use Rattle.rl_syntax.specs.Syntax.{Syntax, Node, Listed, Said, Flag, Pieces, End, Then, span_of}
+use Rattle.rl_syntax.specs.Syntax.{Syntax, Node, Listed, Said, Flag, Pieces, End, Then, nodes, nodes_of, span_of}
 use Rattle.rl_text.specs.Numeral.{is_numeral, number_of}
 use Rattle.rl_lower_expressions.specs.Groups.{has_parts}
 use Rattle.rl_lowered.specs.Forms.{is_property}
 use Rattle.rl_lower_expressions.specs.Keys.{IsFraction, found_list, where_pieces}
-
--- Room is left behind a part that made no more than was set apart for it.
-pub room_after : (s t : State) (grown more all : ℕ) → size_of t ≤ size_of s + grown → grown + more ≤ all → HasRoom s all → HasRoom t more
-room_after s t grown more all size fits room = omega (arith, size, fits, room)
-
--- A derivation, told of a tree, a state and a place that are equal to its own.
-pub derived : {names : Names} (tree e : Syntax) (s t new : State) (p place : Place) → e ≡ tree → new ≡ t → place ≡ p → Lowered names e s t p
-    → LowersExpression names tree s new place
-derived {names} tree e s t new p place is moved placed by =
-    told
-    (subst (λ (n : Syntax). Lowered names n s new place) is
-    (subst (λ (n : State). Lowered names e s n place) (sym moved)
-    (subst (λ (q : Place). Lowered names e s t q) (sym placed) by)))
 
 pub literal_ok : (names : Names) {tree : Syntax} {at : At} {w : Word} {fields : Pieces} {p : PrimitiveValue} (r : Result Place Stop)
     (s new : State)
@@ -61,37 +51,6 @@ pub literal_ok : (names : Names) {tree : Syntax} {at : At} {w : Word} {fields : 
 literal_ok names {tree} {at} {w} {fields} {p} (Ok place) s new is literal moved placed =
     derived tree (Node at w fields) s _ new _ place is moved placed (lowered.Literal at w fields p s literal)
 literal_ok names (Err e) s new is literal moved placed = tt
-
-pub number_ok : (at : At) (text : List ℕ) (number : ℕ) (r : Result Place Stop) (s new : State) → is_numeral text ≡ true
-    → number ≡ number_of text
-    → OnOk r (new ≡ with_value s (values.Primitive (primitives.Number number)) (Some at.span))
-    → IfOk r (λ place. place ≡ temporary s (Some at.span))
-    → IfOk r (λ place. (names : Names) → LowersExpression names (Node at word.Num (Then (Said text) End)) s new place)
-number_ok at text number (Ok place) s new numeral same moved placed = λ names.
-    derived (Node at word.Num (Then (Said text) End)) (Node at word.Num (Then (Said text) End)) s _ new _ place refl
-    (moved ∙ ap (λ (n : ℕ). with_value s (values.Primitive (primitives.Number n)) (Some at.span)) same) placed
-    (lowered.Literal at word.Num (Then (Said text) End) (primitives.Number (number_of text)) s (forms.Number numeral))
-number_ok at text number (Err e) s new numeral same moved placed = tt
-
--- A node that is refused without its parts.
-pub refused_ok : {names : Names} {tree : Syntax} {at : At} {w : Word} {fields : Pieces} {r : Row} (result : Result Place Stop)
-    (s new : State)
-    → Node at w fields ≡ tree → IsRefused names w fields r
-    → OnOk result (new ≡ with_value (recorded s (refusal r at.span)) (values.Primitive primitives.Undefined) (Some at.span))
-    → IfOk result (λ place. place ≡ temporary (recorded s (refusal r at.span)) (Some at.span))
-    → IfOk result (λ place. LowersExpression names tree s new place)
-refused_ok {names} {tree} {at} {w} {fields} {r} (Ok place) s new is refused moved placed =
-    derived tree (Node at w fields) s _ new _ place is moved placed (lowered.Refused at w fields r s refused)
-refused_ok (Err e) s new is refused moved placed = tt
-
--- A number that is no numeral.
-pub fraction_ok : (at : At) (text : List ℕ) (result : Result Place Stop) (s new : State) → is_numeral text ≡ false
-    → OnOk result (new ≡ with_value (recorded s (refusal row.F43 at.span)) (values.Primitive primitives.Undefined) (Some at.span))
-    → IfOk result (λ place. place ≡ temporary (recorded s (refusal row.F43 at.span)) (Some at.span))
-    → IfOk result (λ place. (names : Names) → LowersExpression names (Node at word.Num (Then (Said text) End)) s new place)
-fraction_ok at text (Ok place) s new plain moved placed = λ names.
-    refused_ok {names = names} {at = at} {r = row.F43} (Ok place) s new refl (forms.Fraction plain) moved placed
-fraction_ok at text (Err e) s new plain moved placed = tt
 
 -- A node that is refused before its parts are lowered.
 pub refused_before_ok : {names : Names} {tree : Syntax} {at : At} {w : Word} {fields parts : Pieces} {r : Row} {pieces : List Piece}
@@ -287,11 +246,6 @@ plain_callee _ plain = refl
 
 -- Items of a list, each with the pieces of what it was lowered from.
 
-gathered_more : {X : Type 0} (f : X → List Piece) (items more : List X) → gathered f (items ++ more) ≡ gathered f items ++ gathered f more
-gathered_more f [] more = refl
-gathered_more f (x ∷ items) more =
-    ap (λ (l : List Piece). f x ++ l) (gathered_more f items more) ∙ sym (append_assoc (f x) (gathered f items) (gathered f more))
-
 -- The parts of a row that were lowered, and `left`, give what the items and `more` give.
 abbrev pub GivesLeft : {X : Type 0} → (X → List Piece) → Names → (of_object : Bool) → (all left : Pieces) → (old now : State) → List X
     → Type 0
@@ -314,7 +268,7 @@ gives_more {X} {names} {of_object} {all} {left} {rest} {first} {old} {s} {t} {gi
     (gives new (given ++ more) (subst (λ (es : Pieces). LoweredParts names of_object es s new (given ++ more)) (sym split)
     (one_then one l)))
 
-pub gives_next : {X : Type 0} {names : Names} {all left rest : Pieces} {first : Syntax} {old s t : State} (f : X → List Piece)
+gives_next : {X : Type 0} {names : Names} {all left rest : Pieces} {first : Syntax} {old s t : State} (f : X → List Piece)
     (items : List X) {grown : List X} (item : X) → left ≡ Then first rest → grown ≡ items ++ item ∷ []
     → LowersAll names (Then first End) s t (f item)
     → GivesLeft f names false all left old s items → GivesLeft f names false all rest old t grown
@@ -324,12 +278,50 @@ property_gives : (p : Option ObjectProperty) → gathered property_pieces (found
 property_gives (Some p) = append-nil (property_pieces p)
 property_gives None = refl
 
-pub gives_property : {names : Names} {all left rest : Pieces} {first : Syntax} {old s t : State} (items : List ObjectProperty)
+gives_property : {names : Names} {all left rest : Pieces} {first : Syntax} {old s t : State} (items : List ObjectProperty)
     {grown : List ObjectProperty} (p : Option ObjectProperty) → left ≡ Then first rest → grown ≡ items ++ found_list p
     → LowersProperties names (Then first End) s t (where_pieces p)
     → GivesLeft property_pieces names true all left old s items → GivesLeft property_pieces names true all rest old t grown
 gives_property items p split pushed one gives =
     gives_more property_pieces items (found_list p) split pushed (property_gives p) one.by gives
+
+-- A row between two of its parts: those that are left may be lowered, and with them all are.
+pub record HasRow {X : Type 0} (f : X → List Piece) (names : Names) (of_object : Bool) (all left : Pieces) (old now : State)
+    (items : List X) : Type 0 where
+  pub names_now : IsNamed names now
+  pub may : AreLowerable names left
+  pub room : HasRoom now (share (nodes_of left))
+  pub fewer : nodes_of left ≤ nodes_of all
+  pub gives : GivesLeft f names of_object all left old now items
+
+row_next : {X : Type 0} {names : Names} {of_object : Bool} {all left rest : Pieces} {first : Syntax} {old s t : State}
+    (f : X → List Piece) {items grown : List X} → left ≡ Then first rest → IsNamed names t
+    → size_of t ≤ size_of s + share (nodes first + 0) → GivesLeft f names of_object all rest old t grown
+    → HasRow f names of_object all left old s items → HasRow f names of_object all rest old t grown
+row_next {names = names} {left = left} {rest} {first} {s = s} {t} f split named size gives row =
+    let counted : nodes_of left ≡ nodes first + nodes_of rest = ap nodes_of split in
+    record {
+      names_now = named;
+      may = (subst (AreLowerable names) split row.may).1;
+      room = room_after s t (share (nodes first + 0)) (share (nodes_of rest)) (share (nodes_of left)) size (omega (arith, counted))
+          row.room;
+      fewer = omega (arith, counted, row.fewer);
+      gives = gives;
+    }
+
+pub row_all : {X : Type 0} {names : Names} {all left rest : Pieces} {first : Syntax} {old s t : State} (f : X → List Piece)
+    (items : List X) {grown : List X} (item : X) → left ≡ Then first rest → grown ≡ items ++ item ∷ []
+    → LowersAll names (Then first End) s t (f item) → HasRow f names false all left old s items
+    → HasRow f names false all rest old t grown
+row_all f items item split pushed one row =
+    row_next f split (one.named row.names_now) one.size (gives_next f items item split pushed one row.gives) row
+
+pub row_properties : {names : Names} {all left rest : Pieces} {first : Syntax} {old s t : State} (items : List ObjectProperty)
+    {grown : List ObjectProperty} (p : Option ObjectProperty) → left ≡ Then first rest → grown ≡ items ++ found_list p
+    → LowersProperties names (Then first End) s t (where_pieces p) → HasRow property_pieces names true all left old s items
+    → HasRow property_pieces names true all rest old t grown
+row_properties items p split pushed one row =
+    row_next property_pieces split (one.named row.names_now) one.size (gives_property items p split pushed one row.gives) row
 
 gives_done : {X : Type 0} {names : Names} {of_object : Bool} {all left : Pieces} {old now : State} (f : X → List Piece) (items : List X)
     → left ≡ End → GivesLeft f names of_object all left old now items → LoweredParts names of_object all old now (gathered f items)

@@ -22,7 +22,7 @@ use Rattle.rl_runs.specs.Blocks.{size_of}
 use Rattle.rl_syntax.specs.declared.numbered.At.{At}
 use Rattle.rl_syntax.specs.declared.word.Word.TheVariants as word
 use Rattle.rl_syntax.specs.Syntax.{Syntax, Node, Listed, Said, Pieces, End, Then, span_of}
-use Rattle.rl_lower_expressions.proofs.Derivations.{derived, room_after}
+use Rattle.rl_lower_parts.proofs.Derivations.{derived, room_after}
 
 pub logical_ok : {names : Names} {at : At} {operator : LogicalOperator} {left right : Syntax} {s b1 s2 b2 s3 : State} {r l : Place}
     {f : LogicalParts}

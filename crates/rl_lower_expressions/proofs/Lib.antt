@@ -1,12 +1,11 @@
+pub mod AssignedPatterns
 pub mod AssignmentDerivations
 pub mod CallDerivations
 pub mod ChainDerivations
 pub mod ChainPlaces
 pub mod Derivations
 pub mod FrameDerivations
-pub mod Inside
 pub mod MemberDerivations
-pub mod NameDerivations
 pub mod OperandDerivations
 pub mod OperatorDerivations
-pub mod ParsedNumbers
+pub mod TargetDerivations

@@ -18,7 +18,6 @@ use Rattle.rl_hir.specs.declared.instruction.InstructionValue.TheVariants as val
 use Rattle.rl_hir.specs.declared.instruction.MethodCall.{MethodCall}
 use Rattle.rl_hir.specs.declared.instruction.Place.{Place}
 use Rattle.rl_hir.specs.declared.instruction.PlaceOrSpread.{PlaceOrSpread}
-use Rattle.rl_hir.specs.declared.instruction.PropertyLiteral.{PropertyLiteral}
 use Rattle.rl_hir.specs.declared.instruction.PropertyLiteral.TheVariants as keys
 use Rattle.rl_lower_expressions.specs.declared.member.LoweredMember.{LoweredMember}
 use Rattle.rl_lower_expressions.specs.declared.member.MemberProperty.{MemberProperty}
@@ -33,26 +32,19 @@ use Rattle.rl_model.specs.Applied.{deletes}
 use Rattle.rl_model.specs.Shapes.{is_link}
 use Rattle.rl_names.specs.Names.{Names}
 use Rattle.rl_promises.specs.Lowerable.{IsLowerable, Where}
-use Rattle.rl_promises.specs.Outs.{is_lost_delete, is_wrapped}
+use Rattle.rl_promises.specs.Outs.{is_wrapped}
 use Rattle.rl_runs.proofs.Sizes.{size_value}
 use Rattle.rl_runs.specs.Blocks.{size_of}
 use Rattle.rl_syntax.specs.declared.numbered.At.{At}
 use Rattle.rl_syntax.specs.declared.word.Word.{Word}
 use Rattle.rl_syntax.specs.declared.word.Word.TheVariants as word
 use Rattle.rl_syntax.specs.Syntax.{Syntax, Node, Listed, Said, Flag, Pieces, End, Then, nodes, nodes_of}
-use Rattle.rl_text.specs.Numeral.{number_of}
-use Rattle.rl_lower_expressions.proofs.ParsedNumbers.{parsed_none, parsed_some}
-use Rattle.rl_lower_expressions.proofs.Derivations.{asked_ok, derived, inner_ok, next, nothing, private_told}
+use Rattle.rl_lower_parts.proofs.ParsedNumbers.{parsed_none, parsed_some}
+use Rattle.rl_lower_expressions.proofs.Derivations.{asked_ok, inner_ok, next, nothing, private_told}
+use Rattle.rl_lower_parts.proofs.Derivations.{derived}
 use Rattle.rl_lower_expressions.specs.Groups.{key_number}
 use Rattle.rl_lower_expressions.specs.Links.{LowersKey}
 use Rattle.rl_lower_expressions.specs.Members.{LowersMember, key_of}
-
--- A value makes at most four things.
-pub grown : (s t : State) (v : InstructionValue) (span : Option Span) → t ≡ with_value s v span → size_of t ≤ size_of s + 4
-grown s t v span moved =
-    let size : size_of (with_value s v span) ≤ size_of s + 4 = size_value s v span in
-    let same : size_of t ≡ size_of (with_value s v span) = ap size_of moved in
-    omega (arith, size, same)
 
 -- Keys.
 
@@ -187,7 +179,7 @@ updated_ok at operator prefix m (Err e) new is l moved placed = tt
 -- The target of an update that is not wrapped is lowerable.
 pub update_may : (names : Names) (at : At) (operator prefix target : Syntax) → is_wrapped target ≡ false
     → IsLowerable names (Node at word.Update (Then operator (Then prefix (Then target End)))) → IsLowerable names target
-update_may names at operator prefix target bare may = subst (λ (b : Bool). Where (not b) (IsLowerable names target)) bare may
+update_may names at operator prefix target bare may = subst (λ (b : Bool). Where (not b) (IsLowerable names target)) bare may.1
 
 -- The update of a private name.
 pub private_update_ok : (names : Names) (at : At) {there : At} {target object : Syntax} (operator prefix : Syntax) {name : List ℕ}

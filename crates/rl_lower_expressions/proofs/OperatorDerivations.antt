@@ -1,5 +1,5 @@
 -- Derivations of expressions under types.
-use Rattle.std.proofs.Common.{◌≡◌, Some, Result, Ok, Err, OnOk, IfOk, true, List, map, refl, sym, ap, ◌∙◌, subst}
+use Rattle.std.proofs.Common.{◌≡◌, Some, Result, Ok, Err, OnOk, IfOk, true, refl, sym, ap, ◌∙◌, subst}
 use Rattle.rl_base.specs.TypeKinds.{type_text}
 use Rattle.rl_base.specs.declared.stop.Stop.{Stop}
 use Rattle.rl_base.specs.declared.type_kind.TypeKind.{TypeKind}
@@ -19,7 +19,7 @@ use Rattle.rl_syntax.specs.declared.numbered.At.{At}
 use Rattle.rl_syntax.specs.declared.word.Word.{Word}
 use Rattle.rl_syntax.specs.declared.word.Word.TheVariants as word
 use Rattle.rl_syntax.specs.Syntax.{Syntax, Node, Said, Pieces, End, Then}
-use Rattle.rl_lower_expressions.proofs.Derivations.{derived}
+use Rattle.rl_lower_parts.proofs.Derivations.{derived}
 
 -- A node with a type of its own.
 annotated : {there : At} (k : TypeKind) {type : Syntax} (tree : Syntax)

@@ -4,16 +4,6 @@ use Rattle.rl_syntax.specs.Syntax.{Syntax, Node, Said, Pieces, End, Then}
 use Rattle.rl_syntax.specs.declared.word.Word.TheVariants as word
 use Rattle.rl_text.specs.Numeral.{is_numeral, number_of}
 
--- True of an expression in parentheses.
-abbrev pub is_parenthesized : Syntax → Bool
-is_parenthesized (Node at word.Paren parts) = true
-is_parenthesized _ = false
-
--- True of `a!`.
-abbrev pub is_assertion : Syntax → Bool
-is_assertion (Node at word.Nonnull parts) = true
-is_assertion _ = false
-
 -- True of what may be a link of a chain: a property, also of a private name, or a call.
 abbrev pub is_linked : Syntax → Bool
 is_linked (Node at word.Member parts) = true

@@ -28,7 +28,7 @@ abbrev pub front_of : fronts.Front → Front
 front_of (front.Alone place) = Alone place
 front_of (front.Method receiver property) = Lent receiver property
 
--- Where the spine of a chain stands that is below a link of another chain, or not.
+-- The place of the spine of a chain that is below a link of another chain, or not.
 abbrev pub spine_of : (below : Bool) → Spine
 spine_of true = Below
 spine_of false = Top

@@ -1,8 +1,8 @@
-//! Lowering of assignments, by `=` and by compound operators, to names and to properties.
+//! Lowering of assignments, by `=` and by compound operators, to names, to properties, and by `=` to patterns.
 
-ghost use Rattle.std.specs.Prelude.{◌≡◌, ◌+◌, ℕ, List, Some, false, codes, IfOk, IfErr};
+ghost use Rattle.std.specs.Prelude.{◌≡◌, ◌+◌, ℕ, List, Some, false, not, codes, IfOk, IfErr};
 ghost use Rattle.rl_lower_expressions.specs.Members.{LowersMember};
-ghost use Rattle.rl_syntax.specs.Syntax.{Syntax, Node, Said, End, Then, Pieces, nodes, syntax};
+ghost use Rattle.rl_syntax.specs.Syntax.{Syntax, Node, Said, Flag, End, Then, Pieces, nodes, syntax};
 ghost use Rattle.rl_ast.specs.BindingViews.{seen_identifier_reference};
 ghost use Rattle.rl_ast.specs.ExpressionViews.{seen_expression};
 ghost use Rattle.rl_base.specs.Operators.{assignment_text};
@@ -12,19 +12,18 @@ ghost use Rattle.rl_lowered.specs.Forms.{applied_by};
 ghost use Rattle.rl_lowered.specs.Named.{IsNamed};
 ghost use Rattle.rl_lowered.specs.Promised.{HasRoom, LowersExpression, share};
 ghost use Rattle.rl_promises.specs.Locals.{IsVariable};
-ghost use Rattle.rl_promises.specs.Lowerable.{IsFree, IsLowerable};
+ghost use Rattle.rl_promises.specs.Lowerable.{IsFree, IsLowerable, IsLowerableTo, Where};
 ghost use Rattle.rl_promises.specs.Outs.{is_wrapped};
+ghost use Rattle.rl_promises.specs.Patterns.{is_pattern};
 ghost use Rattle.rl_names.specs.Names.{local_of};
 ghost use Rattle.rl_names.specs.Seen.{seen};
 ghost use Rattle.rl_names.specs.declared.names.Meaning.TheVariants.{Local};
 
 use crate::access::{lower_computed, lower_static};
 use crate::expression::lower_expression;
-use crate::graph_builder::GraphBuilder;
 use crate::member::{LoweredMember, load_again, store_member};
-use crate::name::{lower_identifier, refuse_constant, resolve_variable};
 use crate::operator::lower_private;
-use crate::temporary::{lower_undefined, lower_value_to_temporary, refuse_as_undefined};
+use crate::target::lower_target;
 use rl_ast::binding::{IdentifierReference, identifier_reference_view};
 use rl_ast::expression::Expression;
 use rl_ast::target::{AssignmentTarget, assignment_target_view};
@@ -33,8 +32,12 @@ use rl_base::operator::{AssignmentOperator, BinaryOperator};
 use rl_base::row::Row;
 use rl_base::stop::Stop;
 use rl_builder::unit_tables::ReadsUnit;
-use rl_grammar::sort::{AssignmentTargetTree, ExpressionTree};
+use rl_grammar::sort::{AssignmentTargetTree, ExpressionTree, IdentifierReferenceTree};
 use rl_hir::instruction::{InstructionKind, InstructionValue, Place};
+use rl_lower_parts::graph_builder::GraphBuilder;
+use rl_lower_parts::name::{lower_identifier, refuse_constant, resolve_variable};
+use rl_lower_parts::span::span_of;
+use rl_lower_parts::temporary::{lower_undefined, lower_value_to_temporary, refuse_as_undefined};
 use rl_names::names::{FunctionNames, Meaning};
 use rl_syntax::numbered::At;
 use rl_syntax::word::Word;
@@ -65,7 +68,7 @@ fn applied_by(operator: AssignmentOperator) -> Option<BinaryOperator>
 }
 
 /// The value of an assignment to a variable at a name.
-fn assigned_to(variable: Place, value: Place) -> InstructionValue
+pub(crate) fn assigned_to(variable: Place, value: Place) -> InstructionValue
     ensures { result ≡ InstructionValue.StoreLocal InstructionKind.Reassign variable value }
 {
     InstructionValue::StoreLocal {
@@ -144,7 +147,9 @@ fn lower_assigned<U: ReadsUnit>(
 ) -> Result<Place, Stop>
     requires names { IsNamed (seen names.now) (state_of U.tables builder.old) }
     requires bare { is_wrapped (syntax target.tree.now) ≡ false }
-    requires may { IsLowerable (seen names.now) (syntax target.tree.now) × IsLowerable (seen names.now) (syntax right.tree.now) }
+    requires may { Where (not (is_pattern (syntax target.tree.now))) (IsLowerable (seen names.now) (syntax target.tree.now)) }
+    requires may_take { Where (is_pattern (syntax target.tree.now)) (IsLowerableTo (seen names.now) (syntax target.tree.now)) }
+    requires may_value { IsLowerable (seen names.now) (syntax right.tree.now) }
     requires room { HasRoom (state_of U.tables builder.old) (share (nodes (syntax target.tree.now) + nodes (syntax right.tree.now) + 1)) }
     ensures same_reference { builder.new.env.ghost_name ≡ builder.old.env.ghost_name }
     ensures lowered { IfOk result (λ place. LowersExpression (seen names.now) (Node at Word.Assign (Then (Said (codes "=")) (Then (syntax target.entry.tree.now) (Then (syntax right.entry.tree.now) End)))) (state_of U.tables builder.old) (state_of U.tables builder.new) place) }
@@ -163,7 +168,7 @@ fn lower_assigned<U: ReadsUnit>(
             property,
         } => {
             let member = lower_static(alloc, builder, names, object, property)?;
-            store_member(alloc, builder, there, member, value)
+            store_member(alloc, builder, there.span, member, value)
         }
         AssignmentTarget::Index {
             at: there,
@@ -172,7 +177,7 @@ fn lower_assigned<U: ReadsUnit>(
             property,
         } => {
             let member = lower_computed(alloc, builder, names, object, property)?;
-            store_member(alloc, builder, there, member, value)
+            store_member(alloc, builder, there.span, member, value)
         }
         AssignmentTarget::PrivateMember {
             at: _,
@@ -183,8 +188,12 @@ fn lower_assigned<U: ReadsUnit>(
             lower_expression(alloc, builder, names, object)?;
             refuse_as_undefined(alloc, builder, Row::F5, at)
         }
-        AssignmentTarget::Array { .. } => unreachable!(),
-        AssignmentTarget::Object { .. } => unreachable!(),
+        AssignmentTarget::Array { .. } => {
+            lower_target(alloc, builder, names, span_of(target.tree), target, value)
+        }
+        AssignmentTarget::Object { .. } => {
+            lower_target(alloc, builder, names, span_of(target.tree), target, value)
+        }
         AssignmentTarget::As { .. } => unreachable!(),
         AssignmentTarget::Satisfies { .. } => unreachable!(),
         AssignmentTarget::Assert { .. } => unreachable!(),
@@ -304,7 +313,54 @@ fn update_member_by<U: ReadsUnit>(
         right,
     };
     let updated = lower_value_to_temporary(builder, value, span)?;
-    store_member(alloc, builder, there, member, updated)
+    store_member(alloc, builder, there.span, member, updated)
+}
+
+/// Lowers a compound assignment to a property of a private name at `there`, which is refused: its object, and then the right part.
+#[cycle(expressions)]
+fn compound_private<U: ReadsUnit>(
+    alloc: Global,
+    builder: &mut GraphBuilder<'_, U>,
+    names: &FunctionNames<'_>,
+    at: At,
+    there: At,
+    object: ExpressionTree<'_>,
+    right: ExpressionTree<'_>,
+) -> Result<Place, Stop>
+    requires names { IsNamed (seen names.now) (state_of U.tables builder.old) }
+    requires may { IsLowerable (seen names.now) (syntax object.tree.now) × IsLowerable (seen names.now) (syntax right.tree.now) }
+    requires room { HasRoom (state_of U.tables builder.old) (share (nodes (syntax object.tree.now) + nodes (syntax right.tree.now) + 2)) }
+    ensures same_reference { builder.new.env.ghost_name ≡ builder.old.env.ghost_name }
+    ensures lowered { IfOk result (λ place. (name : List ℕ) (operator : AssignmentOperator) (applied : BinaryOperator) → applied_by operator ≡ Some applied → LowersExpression (seen names.now) (Node at Word.Assign (Then (Said (assignment_text operator)) (Then (Node there Word.Privatemember (Then (Flag false) (Then (syntax object.entry.tree.now) (Then (Said name) End)))) (Then (syntax right.entry.tree.now) End)))) (state_of U.tables builder.old) (state_of U.tables builder.new) place) }
+    ensures memory { IfErr result (λ e. e ≡ Stop.OutOfMemory) }
+{
+    lower_private(alloc, builder, names, there, object)?;
+    lower_expression(alloc, builder, names, right)?;
+    lower_undefined(builder, Some(at.span))
+}
+
+/// Lowers a compound assignment to a name: the old value, the right part, and then the store.
+#[cycle(expressions)]
+fn compound_name<U: ReadsUnit>(
+    alloc: Global,
+    builder: &mut GraphBuilder<'_, U>,
+    names: &FunctionNames<'_>,
+    at: At,
+    applied: BinaryOperator,
+    name: IdentifierReferenceTree<'_>,
+    right: ExpressionTree<'_>,
+) -> Result<Place, Stop>
+    requires names { IsNamed (seen names.now) (state_of U.tables builder.old) }
+    requires may { IsLowerable (seen names.now) (syntax name.tree.now) × IsLowerable (seen names.now) (syntax right.tree.now) }
+    requires room { HasRoom (state_of U.tables builder.old) (share (nodes (syntax name.tree.now) + nodes (syntax right.tree.now) + 1)) }
+    ensures same_reference { builder.new.env.ghost_name ≡ builder.old.env.ghost_name }
+    ensures lowered { IfOk result (λ place. (operator : AssignmentOperator) → applied_by operator ≡ Some applied → LowersExpression (seen names.now) (Node at Word.Assign (Then (Said (assignment_text operator)) (Then (syntax name.entry.tree.now) (Then (syntax right.entry.tree.now) End)))) (state_of U.tables builder.old) (state_of U.tables builder.new) place) }
+    ensures memory { IfErr result (λ e. e ≡ Stop.OutOfMemory) }
+{
+    let identifier = identifier_reference_view(name);
+    let old = lower_identifier(alloc, builder, names, &identifier)?;
+    let right = lower_expression(alloc, builder, names, right)?;
+    update_name_by(alloc, builder, names, at, &identifier, applied, old, right)
 }
 
 /// Lowers a compound assignment: the old value, the right part, and then the store.
@@ -320,18 +376,15 @@ fn lower_compound<U: ReadsUnit>(
 ) -> Result<Place, Stop>
     requires names { IsNamed (seen names.now) (state_of U.tables builder.old) }
     requires bare { is_wrapped (syntax target.tree.now) ≡ false }
-    requires may { IsLowerable (seen names.now) (syntax target.tree.now) × IsLowerable (seen names.now) (syntax right.tree.now) }
+    requires may { Where (not (is_pattern (syntax target.tree.now))) (IsLowerable (seen names.now) (syntax target.tree.now) × IsLowerable (seen names.now) (syntax right.tree.now)) }
     requires room { HasRoom (state_of U.tables builder.old) (share (nodes (syntax target.tree.now) + nodes (syntax right.tree.now) + 1)) }
     ensures same_reference { builder.new.env.ghost_name ≡ builder.old.env.ghost_name }
     ensures lowered { IfOk result (λ place. (operator : AssignmentOperator) → applied_by operator ≡ Some applied → LowersExpression (seen names.now) (Node at Word.Assign (Then (Said (assignment_text operator)) (Then (syntax target.entry.tree.now) (Then (syntax right.entry.tree.now) End)))) (state_of U.tables builder.old) (state_of U.tables builder.new) place) }
     ensures memory { IfErr result (λ e. e ≡ Stop.OutOfMemory) }
 {
     match assignment_target_view(target) {
-        AssignmentTarget::Identifier(identifier) => {
-            let identifier = identifier_reference_view(identifier);
-            let old = lower_identifier(alloc, builder, names, &identifier)?;
-            let right = lower_expression(alloc, builder, names, right)?;
-            update_name_by(alloc, builder, names, at, &identifier, applied, old, right)
+        AssignmentTarget::Identifier(name) => {
+            compound_name(alloc, builder, names, at, applied, name, right)
         }
         AssignmentTarget::Member {
             at: there,
@@ -356,13 +409,9 @@ fn lower_compound<U: ReadsUnit>(
             optional: _,
             object,
             property: _,
-        } => {
-            lower_private(alloc, builder, names, there, object)?;
-            lower_expression(alloc, builder, names, right)?;
-            lower_undefined(builder, Some(at.span))
-        }
-        AssignmentTarget::Array { .. } => unreachable!(),
-        AssignmentTarget::Object { .. } => unreachable!(),
+        } => compound_private(alloc, builder, names, at, there, object, right),
+        AssignmentTarget::Array { .. } => refuse_as_undefined(alloc, builder, Row::F24, at),
+        AssignmentTarget::Object { .. } => refuse_as_undefined(alloc, builder, Row::F24, at),
         AssignmentTarget::As { .. } => unreachable!(),
         AssignmentTarget::Satisfies { .. } => unreachable!(),
         AssignmentTarget::Assert { .. } => unreachable!(),
@@ -370,7 +419,7 @@ fn lower_compound<U: ReadsUnit>(
     }
 }
 
-/// Lowers an assignment (`lowerAssignment`). A logical one is refused without its parts.
+/// Lowers an assignment (`lowerAssignment`). A logical one, and a compound one to a pattern, are refused without their parts.
 #[cycle(expressions)]
 pub(crate) fn lower_assignment<U: ReadsUnit>(
     alloc: Global,

@@ -13,13 +13,9 @@ ghost use Rattle.rl_ast.specs.ExpressionViews.{seen_expression};
 use crate::access::{lower_call, lower_computed, lower_static, lower_tagged, lower_template};
 use crate::assignment::lower_assignment;
 use crate::chain::lower_spine;
-use crate::graph_builder::GraphBuilder;
 use crate::member::load_value;
-use crate::name::{lower_identifier, lower_number};
 use crate::operator::{lower_cast, lower_private, lower_unary, lower_update};
 use crate::parts::{lower_arguments, lower_elements, lower_last, lower_properties};
-use crate::span::span_of;
-use crate::temporary::{lower_undefined, lower_value_to_temporary, refuse, refuse_as_undefined};
 use rl_ast::binding::identifier_reference_view;
 use rl_ast::expression::{Expression, expression_view};
 use rl_base::boxed::Boxed;
@@ -32,6 +28,12 @@ use rl_frames::sequence::SequenceFrame;
 use rl_frames::ternary::Ternary;
 use rl_grammar::sort::{ExpressionTree, ExpressionTrees};
 use rl_hir::instruction::{InstructionValue, Place, PrimitiveValue, RegExpLiteral};
+use rl_lower_parts::graph_builder::GraphBuilder;
+use rl_lower_parts::name::{lower_identifier, lower_number};
+use rl_lower_parts::span::span_of;
+use rl_lower_parts::temporary::{
+    lower_undefined, lower_value_to_temporary, refuse, refuse_as_undefined,
+};
 use rl_names::names::FunctionNames;
 use rl_syntax::numbered::At;
 use std::alloc::Global;

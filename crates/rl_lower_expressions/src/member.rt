@@ -10,19 +10,20 @@ ghost use Rattle.rl_lowered.specs.Promised.{HasRoom};
 ghost use Rattle.rl_lower_expressions.specs.Groups.{key_number};
 ghost use Rattle.rl_lower_expressions.specs.Members.{key_of};
 
-use crate::graph_builder::GraphBuilder;
-use crate::temporary::lower_value_to_temporary;
 use rl_ast::expression::{Expression, expression_view};
 use rl_base::boxed::Boxed;
 use rl_base::error::OutOfMemory;
 use rl_base::number::WholeNumber;
 use rl_base::operator::{BinaryOperator, UpdateOperator};
+use rl_base::span::Span;
 use rl_base::stop::Stop;
 use rl_builder::unit_tables::ReadsUnit;
 use rl_grammar::sort::ExpressionTree;
 use rl_hir::instruction::{
     ComputedStore, InstructionValue, Place, PrimitiveValue, PropertyLiteral,
 };
+use rl_lower_parts::graph_builder::GraphBuilder;
+use rl_lower_parts::temporary::lower_value_to_temporary;
 use rl_syntax::numbered::At;
 use rl_text::number::parse_number;
 use std::alloc::Global;
@@ -197,21 +198,21 @@ pub(crate) fn update_member<U: ReadsUnit>(
     Ok(old)
 }
 
-/// Stores `value` in the property at `at`, whose object and key were lowered. Returns the place of the store. On `Stop::OutOfMemory` an
-/// allocation failed; no other stop comes.
+/// Stores `value` in a property, whose object and key were lowered, by an instruction with the span `at`. Returns the place of the store.
+/// On `Stop::OutOfMemory` an allocation failed; no other stop comes.
 pub fn store_member<U: ReadsUnit>(
     alloc: Global,
     builder: &mut GraphBuilder<'_, U>,
-    at: At,
+    at: Span,
     member: LoweredMember,
     value: Place,
 ) -> Result<Place, Stop>
     requires room { HasRoom (state_of U.tables builder.old) 4 }
     ensures same_reference { builder.new.env.ghost_name ≡ builder.old.env.ghost_name }
-    ensures state { OnOk result (state_of U.tables builder.new ≡ with_value (state_of U.tables builder.old) (store_of member.object (key_of member.property) value) (Some at.span)) }
-    ensures place { IfOk result (λ place. place ≡ temporary (state_of U.tables builder.old) (Some at.span)) }
+    ensures state { OnOk result (state_of U.tables builder.new ≡ with_value (state_of U.tables builder.old) (store_of member.object (key_of member.property) value) (Some at)) }
+    ensures place { IfOk result (λ place. place ≡ temporary (state_of U.tables builder.old) (Some at)) }
     ensures memory { IfErr result (λ e. e ≡ Stop.OutOfMemory) }
 {
     let store = store_value(alloc, member, value)?;
-    lower_value_to_temporary(builder, store, Some(at.span))
+    lower_value_to_temporary(builder, store, Some(at))
 }

@@ -14,10 +14,6 @@ ghost use Rattle.rl_model.specs.Shapes.{is_computed};
 ghost use Rattle.rl_names.specs.Seen.{seen};
 
 use crate::expression::lower_expression;
-use crate::graph_builder::GraphBuilder;
-use crate::shape::is_computed;
-use crate::span::span_of;
-use crate::temporary::refuse;
 use rl_ast::binding::{PropertyKey, property_key_view};
 use rl_ast::expression::{Expression, expression_view};
 use rl_ast::expression_part::{
@@ -35,6 +31,10 @@ use rl_grammar::sort::{
     ExpressionTrees, ObjectPropertyTree, ObjectPropertyTrees, PropertyKeyTree,
 };
 use rl_hir::instruction::{ArrayElement, ObjectProperty, Place, PlaceOrSpread};
+use rl_lower_parts::graph_builder::GraphBuilder;
+use rl_lower_parts::shape::is_computed;
+use rl_lower_parts::span::span_of;
+use rl_lower_parts::temporary::refuse;
 use rl_names::names::FunctionNames;
 use rl_promises::outs::is_known_key;
 use rl_syntax::numbered::At;

@@ -4,19 +4,25 @@ use Rattle.rl_base.specs.declared.span.Span.{Span}
 use Rattle.rl_builder.specs.Builder.{State, state_of}
 use Rattle.rl_frames.specs.Frames.{logical_of, sequence_of, ternary_of}
 use Rattle.rl_hir.specs.Pieces.{argument_pieces, element_pieces, value_pieces}
+use Rattle.rl_lower_expressions.proofs.AssignedPatterns.{applied_plain, assigned_by, assigned_may, assigned_may_take}
+use Rattle.rl_lower_expressions.proofs.AssignedPatterns.{assigned_may_value, assigned_pattern_ok, compound_may, compound_pattern_ok}
+use Rattle.rl_lower_expressions.proofs.AssignedPatterns.{name_plain, shown_both, shown_may, where_pattern, where_plain}
 use Rattle.rl_lower_expressions.proofs.AssignmentDerivations.{assigned_member_ok, assigned_name_ok, assigned_private_ok}
-use Rattle.rl_lower_expressions.proofs.AssignmentDerivations.{assignment_told, compound_member_ok, compound_name_ok, compound_private_ok}
-use Rattle.rl_lower_expressions.proofs.AssignmentDerivations.{compound_target_ok, compound_told, logical_operator, logical_refused}
+use Rattle.rl_lower_expressions.proofs.AssignmentDerivations.{assignment_told, compound_member_ok, compound_name_ok}
+use Rattle.rl_lower_expressions.proofs.AssignmentDerivations.{compound_private_ok, compound_private_told}
+use Rattle.rl_lower_expressions.proofs.AssignmentDerivations.{compound_shown, compound_target_ok, compound_told}
+use Rattle.rl_lower_expressions.proofs.AssignmentDerivations.{logical_operator, logical_refused}
 use Rattle.rl_lower_expressions.proofs.CallDerivations.{named_behind}
-use Rattle.rl_lower_expressions.proofs.ChainDerivations.{alone_ok, below_named, below_room, broken_ok, called_link_ok, callee_ok, chain_ok}
+use Rattle.rl_lower_expressions.proofs.ChainDerivations.{alone_ok, asserted_ok, broken_ok, called_link_ok, callee_ok, chain_ok}
 use Rattle.rl_lower_expressions.proofs.ChainDerivations.{handed_ok, lent_ok, opened_named, opened_room, opens_ok, outermost_ok}
-use Rattle.rl_lower_expressions.proofs.ChainDerivations.{asserted_ok, private_link_ok, property_link_ok, refused_grown}
-use Rattle.rl_lower_expressions.proofs.ChainPlaces.{asserted_may, link_below, link_there, off_spine}
-use Rattle.rl_lower_expressions.proofs.Derivations.{asked_ok, call_told, cooked_form, gives_all, gives_next, gives_properties}
-use Rattle.rl_lower_expressions.proofs.Derivations.{gives_property, index_told, last_alone, last_next, literal_ok, member_told, next}
+use Rattle.rl_lower_expressions.proofs.ChainDerivations.{private_link_ok, property_link_ok, refused_grown}
+use Rattle.rl_lower_expressions.proofs.ChainPlaces.{off_spine}
+use Rattle.rl_lower_expressions.proofs.Derivations.{asked_ok, call_told, cooked_form, gives_all, gives_properties}
+use Rattle.rl_lower_expressions.proofs.Derivations.{index_told, last_alone, last_next, literal_ok, member_told, next}
 use Rattle.rl_lower_expressions.proofs.Derivations.{nothing, object_ok, one_computed, one_fraction, one_hole, one_part, one_property}
 use Rattle.rl_lower_expressions.proofs.Derivations.{one_spread, one_spread_property, one_unknown, plain_callee, private_ok, private_told}
-use Rattle.rl_lower_expressions.proofs.Derivations.{refused_before_ok, refused_ok, regexp_form, room_after, same_ok, sequence_some}
+use Rattle.rl_lower_expressions.proofs.Derivations.{refused_before_ok, regexp_form, row_all, row_properties, same_ok, sequence_some}
+use Rattle.rl_lower_parts.proofs.Derivations.{refused_ok, room_after}
 use Rattle.rl_lower_expressions.proofs.Derivations.{string_literal, tagged_form, tagged_may, template_form}
 use Rattle.rl_lower_expressions.proofs.FrameDerivations.{conditional_ok, logical_begun_named, logical_begun_room, logical_ok}
 use Rattle.rl_lower_expressions.proofs.FrameDerivations.{logical_righted_named, logical_righted_room, logical_second_room}
@@ -24,23 +30,46 @@ use Rattle.rl_lower_expressions.proofs.FrameDerivations.{logical_third_room, seq
 use Rattle.rl_lower_expressions.proofs.FrameDerivations.{ternary_alternated_named, ternary_alternated_room, ternary_begun_named}
 use Rattle.rl_lower_expressions.proofs.FrameDerivations.{ternary_begun_room, ternary_consequent_named, ternary_consequent_room}
 use Rattle.rl_lower_expressions.proofs.FrameDerivations.{ternary_second_room, ternary_third_room}
-use Rattle.rl_lower_expressions.proofs.MemberDerivations.{called_ok, computed_key, delete_may, deleted_ok, grown, loaded_ok, lost_delete}
+use Rattle.rl_lower_expressions.proofs.MemberDerivations.{called_ok, computed_key, delete_may, deleted_ok, loaded_ok, lost_delete}
+use Rattle.rl_lower_parts.proofs.Derivations.{grown}
 use Rattle.rl_lower_expressions.proofs.MemberDerivations.{member_parts, method_ok, numbered_key, private_delete_ok, private_update_ok}
 use Rattle.rl_lower_expressions.proofs.MemberDerivations.{static_key, unary_may, update_may, updated_ok}
 use Rattle.rl_lower_expressions.proofs.OperandDerivations.{index_may, private_may, static_may, target_may}
 use Rattle.rl_lower_expressions.proofs.OperatorDerivations.{cast_ok, cast_told}
+use Rattle.rl_grammar.specs.Fields.{maybe}
+use Rattle.rl_grammar.specs.declared.kind.Kind.TheVariants as kind
+use Rattle.rl_hir.specs.declared.instruction.InstructionKind.TheVariants as kinds
+use Rattle.rl_hir.specs.declared.instruction.Pattern.TheVariants as patterns
+use Rattle.rl_lower_expressions.proofs.TargetDerivations.{ahead_named, all_lowered, apart_named, apart_room_at, array_may, as_index}
+use Rattle.rl_lower_expressions.proofs.TargetDerivations.{as_member, default_before, default_behind, default_may}
+use Rattle.rl_lower_expressions.proofs.TargetDerivations.{default_named, default_room}
+use Rattle.rl_lower_expressions.proofs.TargetDerivations.{first_may, first_room, name_room, next_left, object_may, somewhere, takes_default}
+use Rattle.rl_lower_expressions.proofs.TargetDerivations.{defaults_name, defaults_target, left_may, left_ok, left_room_at}
+use Rattle.rl_lower_expressions.proofs.TargetDerivations.{target_apart_ok, target_defaulted_ok, target_lost_ok, target_member_ok}
+use Rattle.rl_lower_expressions.proofs.TargetDerivations.{taken_as, target_pattern, target_shown}
+use Rattle.rl_lower_parts.proofs.LeftParts.{apart_room, left_room, look_room, object_rest, row_counts, take_room, taken_may, taken_nodes}
+use Rattle.rl_lower_parts.proofs.LeftParts.{part_counts}
+use Rattle.rl_lower_parts.specs.Patterns.{HasTargetRoom, all_left, seen_part}
+use Rattle.rl_lower_parts.specs.declared.target_items.LeftTarget.{LeftTarget}
+use Rattle.rl_lower_parts.specs.declared.target_items.TargetPart.TheVariants as part
+use Rattle.rl_lowered.specs.Items.{TakesArray, TakesObject, destructured}
+use Rattle.rl_model.specs.Shapes.{is_plain_rest}
+use Rattle.rl_optional_frames.specs.Frames.{default_of}
+use Rattle.rl_promises.specs.Patterns.{is_pattern}
+use Rattle.rl_promises.specs.Lowerable.{IsLowerableTo}
 use Rattle.rl_lowered.proofs.Names.{names_recorded}
 use Rattle.rl_lowered.proofs.Told.{told_last}
 use Rattle.rl_lowered.specs.Forms.{IsForm, IsLiteral, is_property}
 use Rattle.rl_lowered.specs.Named.{IsNamed}
-use Rattle.rl_lowered.specs.Promised.{HasRoom, share}
+use Rattle.rl_lowered.specs.Promised.{HasRoom, nodes_left, share}
 use Rattle.rl_names.specs.Seen.{seen}
 use Rattle.rl_promises.specs.Lowerable.{AreLowerable, IsLowerable}
 use Rattle.rl_promises.specs.Outs.{is_wrapped}
 use Rattle.rl_runs.specs.Blocks.{size_of}
-use Rattle.rl_syntax.specs.Syntax.{Flag, Pieces, Said, Syntax, Then, nodes, nodes_of, pieces_of, syntax}
+use Rattle.rl_syntax.specs.Syntax.{Flag, Pieces, Said, Syntax, Then, nodes, nodes_of, pieces_of, span_of, syntax}
 use Rattle.std.proofs.lemmas.Bool.{and_parts}
-use Rattle.std.proofs.Common.{rules, ◌≡◌, ℕ, ◌+◌, map, unwrap_or, refl, ap, sym, ◌∙◌, subst, arith, ◌≤◌}
+use Rattle.std.proofs.Common.{rules, true≢false, ◌≡◌, ℕ, ◌+◌, ◌≤◌, List, [], ◌∷◌, Some, drop, map, unwrap_or, refl, ap, sym, ◌∙◌, subst, arith}
+use Rattle.std.proofs.lemmas.List.{drop_all, drop_more}
 use Rattle.rl_ast.specs.declared.expression.Expression.TheVariants as expression
 use Rattle.rl_lowered.specs.Forms as forms
 use Rattle.rl_lower_expressions.proofs.+expressions.Goals as goal
@@ -526,6 +555,12 @@ operator::lower_update-returns-in-PrivateMember-clause-lowered g t c =
     c.in-PrivateMember.ensures refl c.requires.may)
     c.lower_private.ensures.lowered
 
+pub operator::lower_update-unreachable-requires : goal.operator::lower_update-unreachable-requires
+operator::lower_update-unreachable-requires g t c = true≢false (ap is_pattern c.in-Array.ensures ∙ c.requires.may.0)
+
+pub operator::lower_update-unreachable-requires-in-Object : goal.operator::lower_update-unreachable-requires-in-Object
+operator::lower_update-unreachable-requires-in-Object g t c = true≢false (ap is_pattern c.in-Object.ensures ∙ c.requires.may.0)
+
 pub operator::lower_update-returns-in-As-clause-lowered : goal.operator::lower_update-returns-in-As-clause-lowered
 operator::lower_update-returns-in-As-clause-lowered g t c =
     refused_ok {names = seen c.args.names.now} {at = c.args.at} c.refuse_as_undefined.result _ _ refl
@@ -560,7 +595,8 @@ pub assignment::lower_assigned-returns-in_ok-member-in-Member-clause-lowered
 assignment::lower_assigned-returns-in_ok-member-in-Member-clause-lowered g t c =
     assigned_member_ok c.args.at c.in_ok-member-in-Member.member c.store_member.result
     (state_of g.U.ReadsUnit.tables c.store_member.new.builder)
-    (member_told (seen c.args.names.now) c.in-Member.optional c.in-Member.ensures c.requires.may.0) c.in_ok-value.ensures.lowered
+    (member_told (seen c.args.names.now) c.in-Member.optional c.in-Member.ensures
+    (where_plain c.in-Member.ensures refl c.requires.may)) c.in_ok-value.ensures.lowered
     c.in_ok-member-in-Member.ensures.lowered c.store_member.ensures.state c.store_member.ensures.place
 
 pub assignment::lower_assigned-returns-in_ok-member-in-Index-clause-lowered
@@ -568,31 +604,133 @@ pub assignment::lower_assigned-returns-in_ok-member-in-Index-clause-lowered
 assignment::lower_assigned-returns-in_ok-member-in-Index-clause-lowered g t c =
     assigned_member_ok c.args.at c.in_ok-member-in-Index.member c.store_member-in-Index.result
     (state_of g.U.ReadsUnit.tables c.store_member-in-Index.new.builder)
-    (index_told (seen c.args.names.now) c.in-Index.optional c.in-Index.ensures c.requires.may.0) c.in_ok-value.ensures.lowered
+    (index_told (seen c.args.names.now) c.in-Index.optional c.in-Index.ensures
+    (where_plain c.in-Index.ensures refl c.requires.may)) c.in_ok-value.ensures.lowered
     c.in_ok-member-in-Index.ensures.lowered c.store_member-in-Index.ensures.state c.store_member-in-Index.ensures.place
 
 pub assignment::lower_assigned-returns-in_ok-lower_expression-in-PrivateMember-clause-lowered
     : goal.assignment::lower_assigned-returns-in_ok-lower_expression-in-PrivateMember-clause-lowered
 assignment::lower_assigned-returns-in_ok-lower_expression-in-PrivateMember-clause-lowered g t c =
     assigned_private_ok c.args.at c.refuse_as_undefined.result (state_of g.U.ReadsUnit.tables c.refuse_as_undefined.new.builder)
-    (private_told (seen c.args.names.now) c.in-PrivateMember.optional c.in-PrivateMember.ensures c.requires.may.0)
+    (private_told (seen c.args.names.now) c.in-PrivateMember.optional c.in-PrivateMember.ensures
+    (where_plain c.in-PrivateMember.ensures refl c.requires.may))
     c.in_ok-value.ensures.lowered c.in_ok-lower_expression-in-PrivateMember.ensures.lowered
     c.refuse_as_undefined.ensures.state c.refuse_as_undefined.ensures.place
 
-pub assignment::lower_compound-returns-in_ok-right-in-Identifier-clause-lowered
-    : goal.assignment::lower_compound-returns-in_ok-right-in-Identifier-clause-lowered
-assignment::lower_compound-returns-in_ok-right-in-Identifier-clause-lowered g t c =
+pub assignment::lower_assigned-returns-in-Array-clause-lowered : goal.assignment::lower_assigned-returns-in-Array-clause-lowered
+assignment::lower_assigned-returns-in-Array-clause-lowered g t c =
+    assigned_pattern_ok c.args.at c.lower_target.result (state_of g.U.ReadsUnit.tables c.lower_target.new.builder) c.in-Array.ensures refl
+    c.span_of.ensures c.in_ok-value.ensures.lowered c.lower_target.ensures.lowered
+
+pub assignment::lower_assigned-returns-in-Object-clause-lowered : goal.assignment::lower_assigned-returns-in-Object-clause-lowered
+assignment::lower_assigned-returns-in-Object-clause-lowered g t c =
+    assigned_pattern_ok c.args.at c.lower_target-in-Object.result (state_of g.U.ReadsUnit.tables c.lower_target-in-Object.new.builder)
+    c.in-Object.ensures refl c.span_of-in-Object.ensures c.in_ok-value.ensures.lowered c.lower_target-in-Object.ensures.lowered
+
+pub assignment::lower_assigned-assign_name-requires : goal.assignment::lower_assigned-assign_name-requires
+assignment::lower_assigned-assign_name-requires g t c =
+    record {
+      names = search rules;
+      free = shown_may (seen c.args.names.now) (c.identifier_reference_view-identifier.ensures ∙ c.in-Identifier.ensures) refl
+          c.requires.may;
+      room = search rules;
+    }
+
+pub assignment::lower_assigned-lower_static-requires : goal.assignment::lower_assigned-lower_static-requires
+assignment::lower_assigned-lower_static-requires g t c =
+    let free = static_may (seen c.args.names.now) c.in-Member.optional c.in-Member.ensures
+    (where_plain c.in-Member.ensures refl c.requires.may) in
+    λ lifetimes outlives. (search rules, (search rules, (search rules, (free, search rules))))
+
+pub assignment::lower_assigned-lower_computed-requires : goal.assignment::lower_assigned-lower_computed-requires
+assignment::lower_assigned-lower_computed-requires g t c =
+    let free = index_may (seen c.args.names.now) c.in-Index.optional c.in-Index.ensures
+    (where_plain c.in-Index.ensures refl c.requires.may) in
+    λ lifetimes outlives. (search rules, (search rules, (search rules, (free, search rules))))
+
+pub assignment::lower_assigned-lower_expression-requires-in-PrivateMember
+    : goal.assignment::lower_assigned-lower_expression-requires-in-PrivateMember
+assignment::lower_assigned-lower_expression-requires-in-PrivateMember g t c =
+    let free = private_may (seen c.args.names.now) c.in-PrivateMember.optional c.in-PrivateMember.ensures
+    (where_plain c.in-PrivateMember.ensures refl c.requires.may) in
+    λ lifetimes outlives. (search rules, (search rules, (search rules, (free, search rules))))
+
+pub assignment::lower_assigned-lower_target-requires : goal.assignment::lower_assigned-lower_target-requires
+assignment::lower_assigned-lower_target-requires g t c =
+    let free = where_pattern c.in-Array.ensures refl c.requires.may_take in
+    λ lifetimes outlives. (search rules, (search rules, (search rules, (free, search rules))))
+
+pub assignment::lower_assigned-lower_target-requires-in-Object : goal.assignment::lower_assigned-lower_target-requires-in-Object
+assignment::lower_assigned-lower_target-requires-in-Object g t c =
+    let free = where_pattern c.in-Object.ensures refl c.requires.may_take in
+    λ lifetimes outlives. (search rules, (search rules, (search rules, (free, search rules))))
+
+pub assignment::lower_compound-compound_name-requires : goal.assignment::lower_compound-compound_name-requires
+assignment::lower_compound-compound_name-requires g t c =
+    let free = shown_both (seen c.args.names.now) (syntax c.args.right.tree.now) c.in-Identifier.ensures
+    (name_plain (syntax c.in-Identifier.name.tree.now) c.in-Identifier.name.fit) c.requires.may in
+    λ lifetimes outlives. (search rules, (search rules, (search rules, (free, search rules))))
+
+pub assignment::lower_compound-lower_static-requires : goal.assignment::lower_compound-lower_static-requires
+assignment::lower_compound-lower_static-requires g t c =
+    let free = static_may (seen c.args.names.now) c.in-Member.optional c.in-Member.ensures
+    (where_plain c.in-Member.ensures refl c.requires.may).0 in
+    λ lifetimes outlives. (search rules, (search rules, (search rules, (free, search rules))))
+
+pub assignment::lower_compound-update_member_by-requires : goal.assignment::lower_compound-update_member_by-requires
+assignment::lower_compound-update_member_by-requires g t c =
+    let free = (where_plain c.in-Member.ensures refl c.requires.may).1 in
+    λ lifetimes outlives. (search rules, (search rules, (search rules, (free, search rules))))
+
+pub assignment::lower_compound-lower_computed-requires : goal.assignment::lower_compound-lower_computed-requires
+assignment::lower_compound-lower_computed-requires g t c =
+    let free = index_may (seen c.args.names.now) c.in-Index.optional c.in-Index.ensures
+    (where_plain c.in-Index.ensures refl c.requires.may).0 in
+    λ lifetimes outlives. (search rules, (search rules, (search rules, (free, search rules))))
+
+pub assignment::lower_compound-update_member_by-requires-in-Index : goal.assignment::lower_compound-update_member_by-requires-in-Index
+assignment::lower_compound-update_member_by-requires-in-Index g t c =
+    let free = (where_plain c.in-Index.ensures refl c.requires.may).1 in
+    λ lifetimes outlives. (search rules, (search rules, (search rules, (free, search rules))))
+
+pub assignment::lower_compound-compound_private-requires : goal.assignment::lower_compound-compound_private-requires
+assignment::lower_compound-compound_private-requires g t c =
+    let both = where_plain c.in-PrivateMember.ensures refl c.requires.may in
+    let object = private_may (seen c.args.names.now) c.in-PrivateMember.optional c.in-PrivateMember.ensures both.0 in
+    λ lifetimes outlives. (search rules, (search rules, (search rules, ((object, both.1), search rules))))
+
+pub assignment::lower_compound-returns-in-Array-clause-lowered : goal.assignment::lower_compound-returns-in-Array-clause-lowered
+assignment::lower_compound-returns-in-Array-clause-lowered g t c =
+    compound_pattern_ok (seen c.args.names.now) c.args.at c.args.applied (syntax c.args.right.tree.now)
+    (state_of g.U.ReadsUnit.tables c.args.builder.now) c.refuse_as_undefined.result _ c.in-Array.ensures refl
+    c.refuse_as_undefined.ensures.state c.refuse_as_undefined.ensures.place
+
+pub assignment::lower_compound-returns-in-Object-clause-lowered : goal.assignment::lower_compound-returns-in-Object-clause-lowered
+assignment::lower_compound-returns-in-Object-clause-lowered g t c =
+    compound_pattern_ok (seen c.args.names.now) c.args.at c.args.applied (syntax c.args.right.tree.now)
+    (state_of g.U.ReadsUnit.tables c.args.builder.now) c.refuse_as_undefined-in-Object.result _ c.in-Object.ensures refl
+    c.refuse_as_undefined-in-Object.ensures.state c.refuse_as_undefined-in-Object.ensures.place
+
+pub assignment::lower_compound-returns-in-Identifier-clause-lowered : goal.assignment::lower_compound-returns-in-Identifier-clause-lowered
+assignment::lower_compound-returns-in-Identifier-clause-lowered g t c =
+    compound_shown (seen c.args.names.now) c.args.at c.args.applied (syntax c.args.right.tree.now)
+    (state_of g.U.ReadsUnit.tables c.args.builder.now)
+    (state_of g.U.ReadsUnit.tables c.compound_name.new.builder) c.compound_name.result c.in-Identifier.ensures
+    c.compound_name.ensures.lowered
+
+pub assignment::compound_name-returns-clause-lowered : goal.assignment::compound_name-returns-clause-lowered
+assignment::compound_name-returns-clause-lowered g t c =
     compound_name_ok (seen c.args.names.now) c.args.at c.args.applied (state_of g.U.ReadsUnit.tables c.update_name_by.new.builder)
-    c.update_name_by.result
-    (c.identifier_reference_view-identifier.ensures ∙ c.in-Identifier.ensures) c.in_ok-old-in-Identifier.ensures.lowered
-    c.in_ok-right-in-Identifier.ensures.lowered c.update_name_by.ensures.lowered
+    c.update_name_by.result c.identifier_reference_view-identifier.ensures c.in_ok-old.ensures.lowered c.in_ok-right.ensures.lowered
+    c.update_name_by.ensures.lowered
 
 pub assignment::lower_compound-returns-in_ok-member-in-Member-clause-lowered
     : goal.assignment::lower_compound-returns-in_ok-member-in-Member-clause-lowered
 assignment::lower_compound-returns-in_ok-member-in-Member-clause-lowered g t c =
     compound_target_ok c.args.at (syntax c.args.right.tree.now) c.args.applied c.in_ok-member-in-Member.member
     (state_of g.U.ReadsUnit.tables c.update_member_by.new.builder) c.update_member_by.result
-    (member_told (seen c.args.names.now) c.in-Member.optional c.in-Member.ensures c.requires.may.0)
+    (member_told (seen c.args.names.now) c.in-Member.optional c.in-Member.ensures
+    (where_plain c.in-Member.ensures refl c.requires.may).0)
     c.in_ok-member-in-Member.ensures.lowered c.update_member_by.ensures.lowered
 
 pub assignment::lower_compound-returns-in_ok-member-in-Index-clause-lowered
@@ -600,46 +738,50 @@ pub assignment::lower_compound-returns-in_ok-member-in-Index-clause-lowered
 assignment::lower_compound-returns-in_ok-member-in-Index-clause-lowered g t c =
     compound_target_ok c.args.at (syntax c.args.right.tree.now) c.args.applied c.in_ok-member-in-Index.member
     (state_of g.U.ReadsUnit.tables c.update_member_by-in-Index.new.builder) c.update_member_by-in-Index.result
-    (index_told (seen c.args.names.now) c.in-Index.optional c.in-Index.ensures c.requires.may.0)
+    (index_told (seen c.args.names.now) c.in-Index.optional c.in-Index.ensures
+    (where_plain c.in-Index.ensures refl c.requires.may).0)
     c.in_ok-member-in-Index.ensures.lowered c.update_member_by-in-Index.ensures.lowered
 
-pub assignment::lower_compound-returns-in_ok-lower_expression-in-PrivateMember-clause-lowered
-    : goal.assignment::lower_compound-returns-in_ok-lower_expression-in-PrivateMember-clause-lowered
-assignment::lower_compound-returns-in_ok-lower_expression-in-PrivateMember-clause-lowered g t c =
-    compound_private_ok c.args.at c.args.applied c.lower_undefined.result (state_of g.U.ReadsUnit.tables c.lower_undefined.new.builder)
-    (private_told (seen c.args.names.now) c.in-PrivateMember.optional c.in-PrivateMember.ensures c.requires.may.0)
-    (c.in_ok-lower_private-in-PrivateMember.ensures.lowered c.in-PrivateMember.property.now)
-    c.in_ok-lower_expression-in-PrivateMember.ensures.lowered c.lower_undefined.ensures.state c.lower_undefined.ensures.place
+pub assignment::lower_compound-returns-in-PrivateMember-clause-lowered
+    : goal.assignment::lower_compound-returns-in-PrivateMember-clause-lowered
+assignment::lower_compound-returns-in-PrivateMember-clause-lowered g t c =
+    compound_private_told (seen c.args.names.now) c.args.at c.in-PrivateMember.there c.in-PrivateMember.property.now c.args.applied
+    (syntax c.args.right.tree.now) (state_of g.U.ReadsUnit.tables c.args.builder.now)
+    (state_of g.U.ReadsUnit.tables c.compound_private.new.builder)
+    c.compound_private.result
+    (private_told (seen c.args.names.now) c.in-PrivateMember.optional c.in-PrivateMember.ensures
+    (where_plain c.in-PrivateMember.ensures refl c.requires.may).0)
+    c.compound_private.ensures.lowered
 
-pub assignment::lower_compound-lower_expression-requires-in-PrivateMember
-    : goal.assignment::lower_compound-lower_expression-requires-in-PrivateMember
-assignment::lower_compound-lower_expression-requires-in-PrivateMember g t c =
-    let object : ℕ = nodes (syntax c.in-PrivateMember.object.tree.now) in
-    let target : ℕ = nodes (syntax c.args.target.tree.now) in
+pub assignment::compound_private-returns-clause-lowered : goal.assignment::compound_private-returns-clause-lowered
+assignment::compound_private-returns-clause-lowered g t c =
+    compound_private_ok c.args.at c.args.there c.lower_undefined.result (state_of g.U.ReadsUnit.tables c.lower_undefined.new.builder)
+    c.in_ok-lower_private.ensures.lowered c.in_ok-lower_expression.ensures.lowered c.lower_undefined.ensures.state
+    c.lower_undefined.ensures.place
+
+pub assignment::compound_private-lower_expression-requires : goal.assignment::compound_private-lower_expression-requires
+assignment::compound_private-lower_expression-requires g t c =
+    let object : ℕ = nodes (syntax c.args.object.tree.now) in
     let right : ℕ = nodes (syntax c.args.right.tree.now) in
     let s : State = state_of g.U.ReadsUnit.tables c.args.builder.now in
     let s1 : State = state_of g.U.ReadsUnit.tables c.lower_private.new.builder in
-    let private = c.in_ok-lower_private-in-PrivateMember.ensures.lowered c.in-PrivateMember.property.now in
-    let counted : 0 + (object + (0 + 0)) + 1 ≡ target = ap nodes c.in-PrivateMember.ensures in
+    let private = c.in_ok-lower_private.ensures.lowered [] in
     let first : size_of s1 ≤ size_of s + share (0 + (object + (0 + 0)) + 1) = private.size in
-    let all : HasRoom s (share (target + right + 1)) = c.requires.room in
-    let roomy : HasRoom s1 (share right) = omega (arith, counted, first, all) in
+    let all : HasRoom s (share (object + right + 2)) = c.requires.room in
+    let roomy : HasRoom s1 (share right) = omega (arith, first, all) in
     λ lifetimes outlives. (search rules, (search rules, (private.named c.requires.names, (c.requires.may.1, roomy))))
 
-pub assignment::lower_compound-lower_undefined-requires : goal.assignment::lower_compound-lower_undefined-requires
-assignment::lower_compound-lower_undefined-requires g t c =
-    let object : ℕ = nodes (syntax c.in-PrivateMember.object.tree.now) in
-    let target : ℕ = nodes (syntax c.args.target.tree.now) in
+pub assignment::compound_private-lower_undefined-requires : goal.assignment::compound_private-lower_undefined-requires
+assignment::compound_private-lower_undefined-requires g t c =
+    let object : ℕ = nodes (syntax c.args.object.tree.now) in
     let right : ℕ = nodes (syntax c.args.right.tree.now) in
     let s : State = state_of g.U.ReadsUnit.tables c.args.builder.now in
     let s1 : State = state_of g.U.ReadsUnit.tables c.lower_private.new.builder in
-    let s2 : State = state_of g.U.ReadsUnit.tables c.lower_expression-in-PrivateMember.new.builder in
-    let private = c.in_ok-lower_private-in-PrivateMember.ensures.lowered c.in-PrivateMember.property.now in
-    let counted : 0 + (object + (0 + 0)) + 1 ≡ target = ap nodes c.in-PrivateMember.ensures in
-    let first : size_of s1 ≤ size_of s + share (0 + (object + (0 + 0)) + 1) = private.size in
-    let second : size_of s2 ≤ size_of s1 + share right = c.in_ok-lower_expression-in-PrivateMember.ensures.lowered.size in
-    let all : HasRoom s (share (target + right + 1)) = c.requires.room in
-    record { room = omega (arith, counted, first, second, all) }
+    let s2 : State = state_of g.U.ReadsUnit.tables c.lower_expression.new.builder in
+    let first : size_of s1 ≤ size_of s + share (0 + (object + (0 + 0)) + 1) = (c.in_ok-lower_private.ensures.lowered []).size in
+    let second : size_of s2 ≤ size_of s1 + share right = c.in_ok-lower_expression.ensures.lowered.size in
+    let all : HasRoom s (share (object + right + 2)) = c.requires.room in
+    record { room = omega (arith, first, second, all) }
 
 pub assignment::lower_assignment-returns-in-Assign-clause-lowered : goal.assignment::lower_assignment-returns-in-Assign-clause-lowered
 assignment::lower_assignment-returns-in-Assign-clause-lowered g t c =
@@ -659,6 +801,35 @@ assignment::lower_assignment-returns-in-None-clause-lowered g t c =
     refused_ok {names = seen c.args.names.now} {at = c.args.at} c.refuse_as_undefined.result _ _ refl
     (logical_refused c.args.operator (logical_operator c.args.operator c.in_default.not-Assign c.in-None.ensures))
     c.refuse_as_undefined.ensures.state c.refuse_as_undefined.ensures.place
+
+pub assignment::lower_assignment-lower_assigned-requires : goal.assignment::lower_assignment-lower_assigned-requires
+assignment::lower_assignment-lower_assigned-requires g t c =
+    let names = seen c.args.names.now in
+    let target : Syntax = syntax c.args.target.tree.now in
+    let right : Syntax = syntax c.args.right.tree.now in
+    let may = assigned_by names c.args.at target right c.args.operator c.in-Assign.is c.requires.may in
+    λ lifetimes outlives. (
+      search rules,
+      (
+        search rules,
+        (
+          search rules,
+          (
+            c.requires.may.0,
+            (
+              assigned_may names c.args.at target right may,
+              (assigned_may_take names c.args.at target right may, (assigned_may_value names c.args.at target right may, search rules)),
+            ),
+          ),
+        ),
+      ),
+    )
+
+pub assignment::lower_assignment-lower_compound-requires : goal.assignment::lower_assignment-lower_compound-requires
+assignment::lower_assignment-lower_compound-requires g t c =
+    let free = compound_may (seen c.args.names.now) c.args.at (syntax c.args.target.tree.now) (syntax c.args.right.tree.now)
+    c.args.operator (applied_plain c.args.operator c.in-Some.applied (sym c.in-Some.ensures)) c.requires.may in
+    λ lifetimes outlives. (search rules, (search rules, (search rules, (c.requires.may.0, (free, search rules)))))
 
 pub assignment::update_member_by-lower_expression-requires : goal.assignment::update_member_by-lower_expression-requires
 assignment::update_member_by-lower_expression-requires g t c =
@@ -918,28 +1089,15 @@ parts::lower_argument-returns-in_ok-place-in-Spread-clause-lowered g t c =
 
 pub parts::lower_arguments-arguments-preserved : goal.parts::lower_arguments-arguments-preserved
 parts::lower_arguments-arguments-preserved g t c =
-    let loop = c.arguments.invariant in
-    let now : State = state_of g.U.ReadsUnit.tables c.arguments.builder in
-    let later : State = state_of g.U.ReadsUnit.tables c.lower_argument.new.builder in
-    let one = c.in_ok-lower_argument.ensures.lowered in
-    let left : Pieces = pieces_of (map syntax c.arguments.left.trees.now) in
-    let rest : Pieces = pieces_of (map syntax c.in-Some.rest.trees.now) in
-    let first : Syntax = syntax c.in-Some.argument.tree.now in
-    let split : left ≡ Then first rest = c.in-Some.ensures in
-    let counted : nodes_of left ≡ nodes first + nodes_of rest = ap nodes_of split in
     record {
-      same_reference = c.in_ok-lower_argument.ensures.same_reference ∙ loop.same_reference;
-      names = one.named loop.names;
-      may = (subst (AreLowerable (seen c.args.names.now)) split loop.may).1;
-      room = room_after now later (share (nodes first + 0)) (share (nodes_of rest)) (share (nodes_of left)) one.size
-          (omega (arith, counted)) loop.room;
-      fewer = omega (arith, counted, loop.fewer);
-      gives = gives_next argument_pieces c.arguments.given c.in_ok-lower_argument.field-0 split c.in_ok-push.ensures.ok one loop.gives;
+      same_reference = c.in_ok-lower_argument.ensures.same_reference ∙ c.arguments.invariant.same_reference;
+      row = row_all argument_pieces c.arguments.given c.in_ok-lower_argument.field-0 c.in-Some.ensures c.in_ok-push.ensures.ok
+          c.in_ok-lower_argument.ensures.lowered c.arguments.invariant.row;
     }
 
 pub parts::lower_arguments-returns-clause-lowered : goal.parts::lower_arguments-returns-clause-lowered
 parts::lower_arguments-returns-clause-lowered g t c = gives_all argument_pieces c.arguments.given c.in_default.ensures
-    c.arguments.invariant.gives
+    c.arguments.invariant.row.gives
 
 pub parts::lower_element-returns-in_ok-place-in-Expression-clause-lowered
     : goal.parts::lower_element-returns-in_ok-place-in-Expression-clause-lowered
@@ -956,53 +1114,27 @@ parts::lower_element-returns-in-Hole-clause-lowered g t c = one_hole c.in-Hole.e
 
 pub parts::lower_elements-elements-preserved : goal.parts::lower_elements-elements-preserved
 parts::lower_elements-elements-preserved g t c =
-    let loop = c.elements.invariant in
-    let now : State = state_of g.U.ReadsUnit.tables c.elements.builder in
-    let later : State = state_of g.U.ReadsUnit.tables c.lower_element.new.builder in
-    let one = c.in_ok-lower_element.ensures.lowered in
-    let left : Pieces = pieces_of (map syntax c.elements.left.trees.now) in
-    let rest : Pieces = pieces_of (map syntax c.in-Some.rest.trees.now) in
-    let first : Syntax = syntax c.in-Some.element.tree.now in
-    let split : left ≡ Then first rest = c.in-Some.ensures in
-    let counted : nodes_of left ≡ nodes first + nodes_of rest = ap nodes_of split in
     record {
-      same_reference = c.in_ok-lower_element.ensures.same_reference ∙ loop.same_reference;
-      names = one.named loop.names;
-      may = (subst (AreLowerable (seen c.args.names.now)) split loop.may).1;
-      room = room_after now later (share (nodes first + 0)) (share (nodes_of rest)) (share (nodes_of left)) one.size
-          (omega (arith, counted)) loop.room;
-      fewer = omega (arith, counted, loop.fewer);
-      gives = gives_next element_pieces c.elements.given c.in_ok-lower_element.field-0 split c.in_ok-push.ensures.ok one loop.gives;
+      same_reference = c.in_ok-lower_element.ensures.same_reference ∙ c.elements.invariant.same_reference;
+      row = row_all element_pieces c.elements.given c.in_ok-lower_element.field-0 c.in-Some.ensures c.in_ok-push.ensures.ok
+          c.in_ok-lower_element.ensures.lowered c.elements.invariant.row;
     }
 
 pub parts::lower_elements-returns-clause-lowered : goal.parts::lower_elements-returns-clause-lowered
 parts::lower_elements-returns-clause-lowered g t c = gives_all element_pieces c.elements.given c.in_default.ensures
-    c.elements.invariant.gives
+    c.elements.invariant.row.gives
 
 pub parts::lower_expressions-expressions-preserved : goal.parts::lower_expressions-expressions-preserved
 parts::lower_expressions-expressions-preserved g t c =
-    let loop = c.expressions.invariant in
-    let now : State = state_of g.U.ReadsUnit.tables c.expressions.builder in
-    let later : State = state_of g.U.ReadsUnit.tables c.lower_expression.new.builder in
-    let one = one_part refl c.in_ok-lower_expression.ensures.lowered in
-    let left : Pieces = pieces_of (map syntax c.expressions.left.trees.now) in
-    let rest : Pieces = pieces_of (map syntax c.in-Some.rest.trees.now) in
-    let first : Syntax = syntax c.in-Some.expression.tree.now in
-    let split : left ≡ Then first rest = c.in-Some.ensures in
-    let counted : nodes_of left ≡ nodes first + nodes_of rest = ap nodes_of split in
     record {
-      same_reference = c.in_ok-lower_expression.ensures.same_reference ∙ loop.same_reference;
-      names = one.named loop.names;
-      may = (subst (AreLowerable (seen c.args.names.now)) split loop.may).1;
-      room = room_after now later (share (nodes first + 0)) (share (nodes_of rest)) (share (nodes_of left)) one.size
-          (omega (arith, counted)) loop.room;
-      fewer = omega (arith, counted, loop.fewer);
-      gives = gives_next value_pieces c.expressions.given c.in_ok-lower_expression.field-0 split c.in_ok-push.ensures.ok one loop.gives;
+      same_reference = c.in_ok-lower_expression.ensures.same_reference ∙ c.expressions.invariant.same_reference;
+      row = row_all value_pieces c.expressions.given c.in_ok-lower_expression.field-0 c.in-Some.ensures c.in_ok-push.ensures.ok
+          (one_part refl c.in_ok-lower_expression.ensures.lowered) c.expressions.invariant.row;
     }
 
 pub parts::lower_expressions-returns-clause-lowered : goal.parts::lower_expressions-returns-clause-lowered
 parts::lower_expressions-returns-clause-lowered g t c = gives_all value_pieces c.expressions.given c.in_default.ensures
-    c.expressions.invariant.gives
+    c.expressions.invariant.row.gives
 
 pub parts::lower_keyed-returns-in_ok-place-in-Fixed-clause-lowered : goal.parts::lower_keyed-returns-in_ok-place-in-Fixed-clause-lowered
 parts::lower_keyed-returns-in_ok-place-in-Fixed-clause-lowered g t c = λ at.
@@ -1050,27 +1182,15 @@ parts::lower_last-returns-clause-lowered g t c =
 
 pub parts::lower_properties-properties-preserved : goal.parts::lower_properties-properties-preserved
 parts::lower_properties-properties-preserved g t c =
-    let loop = c.properties.invariant in
-    let now : State = state_of g.U.ReadsUnit.tables c.properties.builder in
-    let later : State = state_of g.U.ReadsUnit.tables c.lower_property.new.builder in
-    let one = c.in_ok-property.ensures.lowered in
-    let left : Pieces = pieces_of (map syntax c.properties.left.trees.now) in
-    let rest : Pieces = pieces_of (map syntax c.in-Some.rest.trees.now) in
-    let first : Syntax = syntax c.in-Some.property.tree.now in
-    let split : left ≡ Then first rest = c.in-Some.ensures in
-    let counted : nodes_of left ≡ nodes first + nodes_of rest = ap nodes_of split in
     record {
-      same_reference = c.in_ok-property.ensures.same_reference ∙ loop.same_reference;
-      names = one.named loop.names;
-      may = (subst (AreLowerable (seen c.args.names.now)) split loop.may).1;
-      room = room_after now later (share (nodes first + 0)) (share (nodes_of rest)) (share (nodes_of left)) one.size
-          (omega (arith, counted)) loop.room;
-      fewer = omega (arith, counted, loop.fewer);
-      gives = gives_property c.properties.given c.in_ok-property.property split c.in_ok-push_where.ensures.pushed one loop.gives;
+      same_reference = c.in_ok-property.ensures.same_reference ∙ c.properties.invariant.same_reference;
+      row = row_properties c.properties.given c.in_ok-property.property c.in-Some.ensures c.in_ok-push_where.ensures.pushed
+          c.in_ok-property.ensures.lowered c.properties.invariant.row;
     }
 
 pub parts::lower_properties-returns-clause-lowered : goal.parts::lower_properties-returns-clause-lowered
-parts::lower_properties-returns-clause-lowered g t c = gives_properties c.properties.given c.in_default.ensures c.properties.invariant.gives
+parts::lower_properties-returns-clause-lowered g t c = gives_properties c.properties.given c.in_default.ensures
+    c.properties.invariant.row.gives
 
 pub parts::lower_property-returns-then-not-is_known_key-clause-lowered
     : goal.parts::lower_property-returns-then-not-is_known_key-clause-lowered
@@ -1082,3 +1202,369 @@ pub parts::lower_property-returns-in_ok-place-in-Spread-clause-lowered
     : goal.parts::lower_property-returns-in_ok-place-in-Spread-clause-lowered
 parts::lower_property-returns-in_ok-place-in-Spread-clause-lowered g t c = one_spread_property c.in-Spread.ensures
     c.in_ok-place-in-Spread.ensures.lowered
+
+pub target::lower_default-returns-clause-defaulted : goal.target::lower_default-returns-clause-defaulted
+target::lower_default-returns-clause-defaulted g t c =
+    takes_default {names = seen c.args.names.now} (default_of c.in_ok-frame.frame) c.args.default.fit c.requires.names
+    c.in_ok-frame.ensures.state c.in_ok-frame.ensures.frame c.in_ok-note_moved.ensures.state c.in_ok-default.ensures.lowered
+    c.in_ok-place.ensures.state c.in_ok-place.ensures.place
+
+pub target::lower_default-lower_expression-requires : goal.target::lower_default-lower_expression-requires
+target::lower_default-lower_expression-requires g t c =
+    let e : Syntax = syntax c.args.default.tree.now in
+    let s : State = state_of g.U.ReadsUnit.tables c.args.builder.now in
+    let b : State = state_of g.U.ReadsUnit.tables c.begin.new.b in
+    let noted : State = state_of g.U.ReadsUnit.tables c.note_moved.new.builder in
+    let named = default_named (seen c.args.names.now) e s b noted c.args.at c.in_ok-frame.ensures.state c.in_ok-note_moved.ensures.state
+    c.requires.names in
+    let roomy = default_room (seen c.args.names.now) e s b noted c.args.at c.in_ok-frame.ensures.state c.in_ok-note_moved.ensures.state
+    c.requires.room in
+    λ lifetimes outlives. (search rules, (search rules, (named, (c.requires.may, roomy))))
+
+pub target::lower_default-finish-requires : goal.target::lower_default-finish-requires
+target::lower_default-finish-requires g t c =
+    let e : Syntax = syntax c.args.default.tree.now in
+    let s : State = state_of g.U.ReadsUnit.tables c.args.builder.now in
+    let b : State = state_of g.U.ReadsUnit.tables c.begin.new.b in
+    let noted : State = state_of g.U.ReadsUnit.tables c.note_moved.new.builder in
+    let behind : State = state_of g.U.ReadsUnit.tables c.lower_expression.new.builder in
+    let roomy : HasRoom noted (share (nodes e)) =
+    default_room (seen c.args.names.now) e s b noted c.args.at c.in_ok-frame.ensures.state c.in_ok-note_moved.ensures.state
+    c.requires.room in
+    let grew : size_of behind ≤ size_of noted + share (nodes e) = c.in_ok-default.ensures.lowered.size in
+    record { room = omega (arith, roomy, grew) }
+
+pub target::lower_array_target-returns-clause-lowered : goal.target::lower_array_target-returns-clause-lowered
+target::lower_array_target-returns-clause-lowered g t c = λ there.
+    target_pattern (patterns.Array c.in_ok-taken.taken.items) there TakesArray c.in_ok-forced.ensures.looked
+    (taken_as c.as_slice.ensures c.in_ok-taken.ensures.taken) refl c.in_ok-place.ensures.state c.in_ok-place.ensures.place
+    c.in_ok-lower_left.ensures.lowered
+
+pub target::lower_array_target-look_at_elements-requires : goal.target::lower_array_target-look_at_elements-requires
+target::lower_array_target-look_at_elements-requires g t c =
+    record {
+      names = c.requires.names;
+      may = (c.requires.may somewhere).0;
+      room = look_room (state_of g.U.ReadsUnit.tables c.args.builder.now) (pieces_of (map syntax c.args.items.trees.now))
+          (maybe c.args.rest (λ t. syntax t.tree.now)) (c.requires.room somewhere);
+    }
+
+pub target::lower_array_target-take_elements-requires : goal.target::lower_array_target-take_elements-requires
+target::lower_array_target-take_elements-requires g t c =
+    let es : Pieces = pieces_of (map syntax c.args.items.trees.now) in
+    record {
+      names = ahead_named c.in_ok-forced.ensures.looked c.requires.names;
+      forced = sym c.in_ok-forced.ensures.forced;
+      may = (c.requires.may somewhere).1;
+      room = take_room es (maybe c.args.rest (λ t. syntax t.tree.now)) (c.requires.room somewhere)
+          (row_counts kind.AssignmentTargetElement es refl c.args.items.fit) c.in_ok-forced.ensures.looked;
+    }
+
+pub target::lower_array_target-take_apart-requires : goal.target::lower_array_target-take_apart-requires
+target::lower_array_target-take_apart-requires g t c =
+    record {
+      room = apart_room c.in_ok-taken.taken.left (c.requires.room somewhere) c.in_ok-forced.ensures.looked c.in_ok-taken.ensures.taken;
+    }
+
+pub target::lower_array_target-lower_left-requires : goal.target::lower_array_target-lower_left-requires
+target::lower_array_target-lower_left-requires g t c =
+    let apart : State = state_of g.U.ReadsUnit.tables c.take_apart.new.builder in
+    let taken = taken_as c.as_slice.ensures c.in_ok-taken.ensures.taken in
+    let named = apart_named _ _ _ apart c.in_ok-forced.ensures.looked taken c.in_ok-place.ensures.state c.requires.names in
+    let free = taken_may taken (c.requires.may somewhere).1 (c.requires.may somewhere).2 in
+    let roomy = left_room c.as_slice.result.now apart (grown (state_of g.U.ReadsUnit.tables c.take_elements.new.builder) apart
+    (destructured kinds.Reassign (patterns.Array c.in_ok-taken.taken.items) c.args.value) (Some c.args.at) c.in_ok-place.ensures.state)
+    (c.requires.room somewhere)
+    c.in_ok-forced.ensures.looked taken in
+    λ lifetimes outlives. (omega (arith, taken_nodes taken), (search rules, (named, (free, roomy))))
+
+pub target::lower_object_target-returns-clause-lowered : goal.target::lower_object_target-returns-clause-lowered
+target::lower_object_target-returns-clause-lowered g t c = λ there.
+    target_pattern (patterns.Object c.in_ok-taken.taken.properties) there TakesObject c.in_ok-forced.ensures.looked
+    (taken_as c.as_slice.ensures c.in_ok-taken.ensures.taken) refl c.in_ok-place.ensures.state c.in_ok-place.ensures.place
+    c.in_ok-lower_left.ensures.lowered
+
+pub target::lower_object_target-look_at_properties-requires : goal.target::lower_object_target-look_at_properties-requires
+target::lower_object_target-look_at_properties-requires g t c =
+    record {
+      names = c.requires.names;
+      may = (c.requires.may somewhere).0;
+      room = look_room (state_of g.U.ReadsUnit.tables c.args.builder.now) (pieces_of (map syntax c.args.properties.trees.now))
+          (maybe c.args.rest (λ t. syntax t.tree.now)) (c.requires.room somewhere);
+    }
+
+pub target::lower_object_target-take_properties-requires : goal.target::lower_object_target-take_properties-requires
+target::lower_object_target-take_properties-requires g t c =
+    let es : Pieces = pieces_of (map syntax c.args.properties.trees.now) in
+    record {
+      names = ahead_named c.in_ok-forced.ensures.looked c.requires.names;
+      forced = sym c.in_ok-forced.ensures.forced;
+      may = (c.requires.may somewhere).1;
+      room = take_room es (maybe c.args.rest (λ t. syntax t.tree.now)) (c.requires.room somewhere)
+          (row_counts kind.AssignmentTargetProperty es refl c.args.properties.fit) c.in_ok-forced.ensures.looked;
+    }
+
+pub target::lower_object_target-take_apart-requires : goal.target::lower_object_target-take_apart-requires
+target::lower_object_target-take_apart-requires g t c =
+    record {
+      room = apart_room c.in_ok-taken.taken.left (c.requires.room somewhere) c.in_ok-forced.ensures.looked c.in_ok-taken.ensures.taken;
+    }
+
+pub target::lower_object_target-lower_left-requires : goal.target::lower_object_target-lower_left-requires
+target::lower_object_target-lower_left-requires g t c =
+    let apart : State = state_of g.U.ReadsUnit.tables c.take_apart.new.builder in
+    let rest : Syntax = maybe c.args.rest (λ t. syntax t.tree.now) in
+    let taken = taken_as c.as_slice.ensures c.in_ok-taken.ensures.taken in
+    let named = apart_named _ _ _ apart c.in_ok-forced.ensures.looked taken c.in_ok-place.ensures.state c.requires.names in
+    let free = taken_may taken (c.requires.may somewhere).1
+    (object_rest (IsLowerableTo (seen c.args.names.now) rest) (is_plain_rest rest) (c.requires.may somewhere).2) in
+    let roomy = left_room c.as_slice.result.now apart (grown (state_of g.U.ReadsUnit.tables c.take_properties.new.builder) apart
+    (destructured kinds.Reassign (patterns.Object c.in_ok-taken.taken.properties) c.args.value) (Some c.args.at)
+    c.in_ok-place.ensures.state) (c.requires.room somewhere)
+    c.in_ok-forced.ensures.looked taken in
+    λ lifetimes outlives. (omega (arith, taken_nodes taken), (search rules, (named, (free, roomy))))
+
+pub target::lower_target-returns-in-Identifier-clause-lowered : goal.target::lower_target-returns-in-Identifier-clause-lowered
+target::lower_target-returns-in-Identifier-clause-lowered g t c =
+    target_shown (seen c.args.names.now) c.args.at c.args.value (state_of g.U.ReadsUnit.tables c.args.builder.now)
+    (state_of g.U.ReadsUnit.tables c.store_name.new.builder) c.store_name.result
+    (c.identifier_reference_view-identifier.ensures ∙ c.in-Identifier.ensures) c.store_name.ensures.lowered
+
+pub target::lower_target-returns-in_ok-member-in-Member-clause-lowered
+    : goal.target::lower_target-returns-in_ok-member-in-Member-clause-lowered
+target::lower_target-returns-in_ok-member-in-Member-clause-lowered g t c =
+    target_member_ok c.args.at c.args.value (state_of g.U.ReadsUnit.tables c.store_member.new.builder) c.in_ok-member-in-Member.member
+    c.store_member.result
+    (member_told (seen c.args.names.now) c.in-Member.optional c.in-Member.ensures
+    (as_member (seen c.args.names.now) c.in-Member.ensures c.requires.may))
+    c.in_ok-member-in-Member.ensures.lowered c.store_member.ensures.state c.store_member.ensures.place
+
+pub target::lower_target-lower_static-requires : goal.target::lower_target-lower_static-requires
+target::lower_target-lower_static-requires g t c =
+    let free = static_may (seen c.args.names.now) c.in-Member.optional c.in-Member.ensures
+    (as_member (seen c.args.names.now) c.in-Member.ensures c.requires.may) in
+    λ lifetimes outlives. (search rules, (search rules, (search rules, (free, search rules))))
+
+pub target::lower_target-returns-in_ok-member-in-Index-clause-lowered
+    : goal.target::lower_target-returns-in_ok-member-in-Index-clause-lowered
+target::lower_target-returns-in_ok-member-in-Index-clause-lowered g t c =
+    target_member_ok c.args.at c.args.value (state_of g.U.ReadsUnit.tables c.store_member-in-Index.new.builder)
+    c.in_ok-member-in-Index.member c.store_member-in-Index.result
+    (index_told (seen c.args.names.now) c.in-Index.optional c.in-Index.ensures
+    (as_index (seen c.args.names.now) c.in-Index.ensures c.requires.may))
+    c.in_ok-member-in-Index.ensures.lowered c.store_member-in-Index.ensures.state c.store_member-in-Index.ensures.place
+
+pub target::lower_target-lower_computed-requires : goal.target::lower_target-lower_computed-requires
+target::lower_target-lower_computed-requires g t c =
+    let free = index_may (seen c.args.names.now) c.in-Index.optional c.in-Index.ensures
+    (as_index (seen c.args.names.now) c.in-Index.ensures c.requires.may) in
+    λ lifetimes outlives. (search rules, (search rules, (search rules, (free, search rules))))
+
+pub target::lower_target-returns-in-PrivateMember-clause-lowered : goal.target::lower_target-returns-in-PrivateMember-clause-lowered
+target::lower_target-returns-in-PrivateMember-clause-lowered g t c =
+    target_lost_ok (seen c.args.names.now) c.args.at c.args.value (state_of g.U.ReadsUnit.tables c.args.builder.now)
+    (state_of g.U.ReadsUnit.tables c.lose_target.new.builder) c.lose_target.result c.in-PrivateMember.ensures refl
+    c.lose_target.ensures.state c.lose_target.ensures.place
+
+pub target::lower_target-returns-in-Array-clause-lowered : goal.target::lower_target-returns-in-Array-clause-lowered
+target::lower_target-returns-in-Array-clause-lowered g t c =
+    target_apart_ok (seen c.args.names.now) c.args.at c.args.value (state_of g.U.ReadsUnit.tables c.args.builder.now)
+    (state_of g.U.ReadsUnit.tables c.lower_array_target.new.builder) c.lower_array_target.result c.in-Array.ensures
+    c.lower_array_target.ensures.lowered
+
+pub target::lower_target-lower_array_target-requires : goal.target::lower_target-lower_array_target-requires
+target::lower_target-lower_array_target-requires g t c =
+    let free = array_may (seen c.args.names.now) c.in-Array.ensures c.requires.may in
+    let roomy = apart_room_at (state_of g.U.ReadsUnit.tables c.args.builder.now) c.in-Array.ensures c.requires.room in
+    λ lifetimes outlives. (search rules, (search rules, (c.requires.names, (free, roomy))))
+
+pub target::lower_target-returns-in-Object-clause-lowered : goal.target::lower_target-returns-in-Object-clause-lowered
+target::lower_target-returns-in-Object-clause-lowered g t c =
+    target_apart_ok (seen c.args.names.now) c.args.at c.args.value (state_of g.U.ReadsUnit.tables c.args.builder.now)
+    (state_of g.U.ReadsUnit.tables c.lower_object_target.new.builder) c.lower_object_target.result c.in-Object.ensures
+    c.lower_object_target.ensures.lowered
+
+pub target::lower_target-lower_object_target-requires : goal.target::lower_target-lower_object_target-requires
+target::lower_target-lower_object_target-requires g t c =
+    let free = object_may (seen c.args.names.now) c.in-Object.ensures c.requires.may in
+    let roomy = apart_room_at (state_of g.U.ReadsUnit.tables c.args.builder.now) c.in-Object.ensures c.requires.room in
+    λ lifetimes outlives. (search rules, (search rules, (c.requires.names, (free, roomy))))
+
+pub target::lower_target-returns-in-As-clause-lowered : goal.target::lower_target-returns-in-As-clause-lowered
+target::lower_target-returns-in-As-clause-lowered g t c =
+    target_lost_ok (seen c.args.names.now) c.args.at c.args.value (state_of g.U.ReadsUnit.tables c.args.builder.now)
+    (state_of g.U.ReadsUnit.tables c.lose_target-in-As.new.builder) c.lose_target-in-As.result c.in-As.ensures refl
+    c.lose_target-in-As.ensures.state c.lose_target-in-As.ensures.place
+
+pub target::lower_target-returns-in-Satisfies-clause-lowered : goal.target::lower_target-returns-in-Satisfies-clause-lowered
+target::lower_target-returns-in-Satisfies-clause-lowered g t c =
+    target_lost_ok (seen c.args.names.now) c.args.at c.args.value (state_of g.U.ReadsUnit.tables c.args.builder.now)
+    (state_of g.U.ReadsUnit.tables c.lose_target-in-Satisfies.new.builder) c.lose_target-in-Satisfies.result c.in-Satisfies.ensures refl
+    c.lose_target-in-Satisfies.ensures.state
+    c.lose_target-in-Satisfies.ensures.place
+
+pub target::lower_target-returns-in-Assert-clause-lowered : goal.target::lower_target-returns-in-Assert-clause-lowered
+target::lower_target-returns-in-Assert-clause-lowered g t c =
+    target_lost_ok (seen c.args.names.now) c.args.at c.args.value (state_of g.U.ReadsUnit.tables c.args.builder.now)
+    (state_of g.U.ReadsUnit.tables c.lose_target-in-Assert.new.builder) c.lose_target-in-Assert.result c.in-Assert.ensures refl
+    c.lose_target-in-Assert.ensures.state
+    c.lose_target-in-Assert.ensures.place
+
+pub target::lower_target-returns-in-NonNull-clause-lowered : goal.target::lower_target-returns-in-NonNull-clause-lowered
+target::lower_target-returns-in-NonNull-clause-lowered g t c =
+    target_lost_ok (seen c.args.names.now) c.args.at c.args.value (state_of g.U.ReadsUnit.tables c.args.builder.now)
+    (state_of g.U.ReadsUnit.tables c.lose_target-in-NonNull.new.builder) c.lose_target-in-NonNull.result c.in-NonNull.ensures refl
+    c.lose_target-in-NonNull.ensures.state
+    c.lose_target-in-NonNull.ensures.place
+
+pub target::lower_maybe_default-returns-in-Target-clause-lowered : goal.target::lower_maybe_default-returns-in-Target-clause-lowered
+target::lower_maybe_default-returns-in-Target-clause-lowered g t c =
+    target_shown (seen c.args.names.now) c.args.at c.args.value (state_of g.U.ReadsUnit.tables c.args.builder.now)
+    (state_of g.U.ReadsUnit.tables c.lower_target.new.builder) c.lower_target.result c.in-Target.ensures c.lower_target.ensures.lowered
+
+pub target::lower_maybe_default-lower_target-requires : goal.target::lower_maybe_default-lower_target-requires
+target::lower_maybe_default-lower_target-requires g t c =
+    let free = subst (IsLowerableTo (seen c.args.names.now)) (sym c.in-Target.ensures) c.requires.may in
+    let roomy = subst (HasTargetRoom (state_of g.U.ReadsUnit.tables c.args.builder.now)) (sym c.in-Target.ensures) c.requires.room in
+    λ lifetimes outlives. (search rules, (search rules, (c.requires.names, (free, roomy))))
+
+pub target::lower_maybe_default-returns-in_ok-value-in-Default-clause-lowered
+    : goal.target::lower_maybe_default-returns-in_ok-value-in-Default-clause-lowered
+target::lower_maybe_default-returns-in_ok-value-in-Default-clause-lowered g t c =
+    target_defaulted_ok c.args.at (state_of g.U.ReadsUnit.tables c.lower_target-in-Default.new.builder) c.lower_target-in-Default.result
+    c.in-Default.ensures
+    (defaults_target (syntax c.in-Default.target.tree.now) (syntax c.in-Default.default.tree.now) c.in-Default.target.fit)
+    c.in_ok-value-in-Default.ensures.defaulted
+    c.lower_target-in-Default.ensures.lowered
+
+pub target::lower_maybe_default-lower_default-requires : goal.target::lower_maybe_default-lower_default-requires
+target::lower_maybe_default-lower_default-requires g t c =
+    let defaults = defaults_target (syntax c.in-Default.target.tree.now) (syntax c.in-Default.default.tree.now) c.in-Default.target.fit in
+    let free = (default_may (seen c.args.names.now) c.in-Default.there c.in-Default.ensures defaults c.requires.may).0 in
+    let roomy = default_before (state_of g.U.ReadsUnit.tables c.args.builder.now) c.in-Default.there c.in-Default.ensures defaults
+    (part_counts (part.Target c.in-Default.target)) c.requires.room in
+    λ lifetimes outlives. (search rules, (search rules, (c.requires.names, (free, roomy))))
+
+pub target::lower_maybe_default-lower_target-requires-in-Default : goal.target::lower_maybe_default-lower_target-requires-in-Default
+target::lower_maybe_default-lower_target-requires-in-Default g t c =
+    let defaults = defaults_target (syntax c.in-Default.target.tree.now) (syntax c.in-Default.default.tree.now) c.in-Default.target.fit in
+    let defaulted = c.in_ok-value-in-Default.ensures.defaulted in
+    let free = (default_may (seen c.args.names.now) c.in-Default.there c.in-Default.ensures defaults c.requires.may).1 in
+    let roomy = default_behind (state_of g.U.ReadsUnit.tables c.args.builder.now)
+    (state_of g.U.ReadsUnit.tables c.lower_default.new.builder) c.in-Default.there c.in-Default.ensures defaults defaulted
+    c.requires.room in
+    λ lifetimes outlives. (search rules, (search rules, (defaulted.named, (free, roomy))))
+
+pub target::lower_left_part-returns-in-MaybeDefault-clause-lowered : goal.target::lower_left_part-returns-in-MaybeDefault-clause-lowered
+target::lower_left_part-returns-in-MaybeDefault-clause-lowered g t c =
+    left_ok (seen c.args.names.now) c.args.left.value (state_of g.U.ReadsUnit.tables c.args.builder.now) _ c.lower_maybe_default.result
+    c.in-MaybeDefault.is refl c.part_span-span.ensures c.lower_maybe_default.ensures.lowered
+
+pub target::lower_left_part-lower_maybe_default-requires : goal.target::lower_left_part-lower_maybe_default-requires
+target::lower_left_part-lower_maybe_default-requires g t c =
+    let free = left_may (seen c.args.names.now) c.in-MaybeDefault.is c.requires.may in
+    let own = c.part_span-span.ensures ∙ ap (λ p. span_of (seen_part p)) c.in-MaybeDefault.is in
+    let roomy = left_room_at (state_of g.U.ReadsUnit.tables c.args.builder.now) c.in-MaybeDefault.is c.requires.room in
+    λ lifetimes outlives. (search rules, (search rules, (c.requires.names, (free, (own, roomy)))))
+
+pub target::lower_left_part-returns-in-Target-clause-lowered : goal.target::lower_left_part-returns-in-Target-clause-lowered
+target::lower_left_part-returns-in-Target-clause-lowered g t c =
+    left_ok (seen c.args.names.now) c.args.left.value (state_of g.U.ReadsUnit.tables c.args.builder.now) _ c.lower_target.result
+    c.in-Target.is refl c.part_span-span.ensures c.lower_target.ensures.lowered
+
+pub target::lower_left_part-lower_target-requires : goal.target::lower_left_part-lower_target-requires
+target::lower_left_part-lower_target-requires g t c =
+    let free = left_may (seen c.args.names.now) c.in-Target.is c.requires.may in
+    let roomy = left_room_at (state_of g.U.ReadsUnit.tables c.args.builder.now) c.in-Target.is c.requires.room in
+    λ lifetimes outlives. (search rules, (search rules, (c.requires.names, (free, roomy))))
+
+pub target::lower_left_part-returns-in-Name-clause-lowered : goal.target::lower_left_part-returns-in-Name-clause-lowered
+target::lower_left_part-returns-in-Name-clause-lowered g t c =
+    left_ok (seen c.args.names.now) c.args.left.value (state_of g.U.ReadsUnit.tables c.args.builder.now) _ c.store_name.result c.in-Name.is
+    c.identifier_reference_view-identifier.ensures c.part_span-span.ensures
+    c.store_name.ensures.lowered
+
+pub target::lower_left_part-store_name-requires : goal.target::lower_left_part-store_name-requires
+target::lower_left_part-store_name-requires g t c =
+    record {
+      names = c.requires.names;
+      free = subst (IsLowerableTo (seen c.args.names.now)) (sym c.identifier_reference_view-identifier.ensures)
+          (left_may (seen c.args.names.now) c.in-Name.is c.requires.may);
+      room = name_room (state_of g.U.ReadsUnit.tables c.args.builder.now) c.identifier_reference_view-identifier.ensures
+          (left_room_at (state_of g.U.ReadsUnit.tables c.args.builder.now) c.in-Name.is c.requires.room);
+    }
+
+pub target::lower_left_part-returns-in_ok-value-in-Short-clause-lowered
+    : goal.target::lower_left_part-returns-in_ok-value-in-Short-clause-lowered
+target::lower_left_part-returns-in_ok-value-in-Short-clause-lowered g t c =
+    left_ok (seen c.args.names.now) c.args.left.value (state_of g.U.ReadsUnit.tables c.args.builder.now) _ c.store_name-in-Short.result
+    c.in-Short.is refl refl
+    (target_defaulted_ok (span_of (seen_part c.args.left.part)) (state_of g.U.ReadsUnit.tables c.store_name-in-Short.new.builder)
+    c.store_name-in-Short.result refl
+    (defaults_name (syntax c.in-Short.name.tree.now) (syntax c.in-Short.default.tree.now) c.in-Short.name.fit c.in-Short.default.fit)
+    c.in_ok-value-in-Short.ensures.defaulted
+    (target_shown (seen c.args.names.now) c.in-Short.at.span c.in_ok-value-in-Short.value
+    (state_of g.U.ReadsUnit.tables c.lower_default.new.builder)
+    (state_of g.U.ReadsUnit.tables c.store_name-in-Short.new.builder) c.store_name-in-Short.result
+    c.identifier_reference_view-identifier-in-Short.ensures
+    c.store_name-in-Short.ensures.lowered))
+
+pub target::lower_left_part-lower_default-requires : goal.target::lower_left_part-lower_default-requires
+target::lower_left_part-lower_default-requires g t c =
+    let s : State = state_of g.U.ReadsUnit.tables c.args.builder.now in
+    let defaults = defaults_name (syntax c.in-Short.name.tree.now) (syntax c.in-Short.default.tree.now) c.in-Short.name.fit
+    c.in-Short.default.fit in
+    let free = (default_may (seen c.args.names.now) c.in-Short.at refl defaults
+    (left_may (seen c.args.names.now) c.in-Short.is c.requires.may)).0 in
+    let roomy = default_before s c.in-Short.at refl defaults (part_counts (part.Name c.in-Short.name))
+    (left_room_at s c.in-Short.is c.requires.room) in
+    λ lifetimes outlives. (search rules, (search rules, (c.requires.names, (free, roomy))))
+
+pub target::lower_left_part-store_name-requires-in-Short : goal.target::lower_left_part-store_name-requires-in-Short
+target::lower_left_part-store_name-requires-in-Short g t c =
+    let s : State = state_of g.U.ReadsUnit.tables c.args.builder.now in
+    let behind : State = state_of g.U.ReadsUnit.tables c.lower_default.new.builder in
+    let defaults = defaults_name (syntax c.in-Short.name.tree.now) (syntax c.in-Short.default.tree.now) c.in-Short.name.fit
+    c.in-Short.default.fit in
+    let defaulted = c.in_ok-value-in-Short.ensures.defaulted in
+    record {
+      names = defaulted.named;
+      free = subst (IsLowerableTo (seen c.args.names.now)) (sym c.identifier_reference_view-identifier-in-Short.ensures)
+          (default_may (seen c.args.names.now) c.in-Short.at refl defaults
+          (left_may (seen c.args.names.now) c.in-Short.is c.requires.may)).1;
+      room = name_room behind c.identifier_reference_view-identifier-in-Short.ensures
+          (default_behind s behind c.in-Short.at refl defaults defaulted (left_room_at s c.in-Short.is c.requires.room));
+    }
+
+pub target::lower_left-returns-clause-lowered : goal.target::lower_left-returns-clause-lowered
+target::lower_left-returns-clause-lowered g t c =
+    all_lowered c.args.left.now (drop_all c.parts.part-index c.args.left.now (omega (arith, c.parts-test.false)))
+    c.parts.invariant.left.gives
+
+pub target::lower_left-parts-preserved : goal.target::lower_left-parts-preserved
+target::lower_left-parts-preserved g t c =
+    let all : List LeftTarget = c.args.left.now in
+    let index : ℕ = c.parts.part-index in
+    let split : drop index all ≡ c.part-item.result ∷ drop (index + 1) all =
+    drop_more all index c.part-item.result c.parts-test.true
+    ∙ ap (λ (x : LeftTarget). x ∷ drop (index + 1) all) (sym c.part-item.is) in
+    record {
+      same_reference = c.in_ok-lower_left_part.ensures.same_reference ∙ c.parts.invariant.same_reference;
+      left = next_left (state_of g.U.ReadsUnit.tables c.lower_left_part.new.builder) split c.in_ok-lower_left_part.ensures.lowered
+          c.parts.invariant.left;
+    }
+
+pub target::lower_left-lower_left_part-requires : goal.target::lower_left-lower_left_part-requires
+target::lower_left-lower_left_part-requires g t c =
+    let all : List LeftTarget = c.args.left.now in
+    let index : ℕ = c.parts.part-index in
+    let loop = c.parts.invariant.left in
+    let split : drop index all ≡ c.part-item.result ∷ drop (index + 1) all =
+    drop_more all index c.part-item.result c.parts-test.true
+    ∙ ap (λ (x : LeftTarget). x ∷ drop (index + 1) all) (sym c.part-item.is) in
+    let counted : nodes_left (all_left (drop index all))
+    ≡ nodes (seen_part c.part-item.result.part) + nodes_left (all_left (drop (index + 1) all)) =
+    ap (λ (l : List LeftTarget). nodes_left (all_left l)) split in
+    let free = first_may (seen c.args.names.now) split loop.may in
+    let roomy = first_room (state_of g.U.ReadsUnit.tables c.parts.builder) split loop.room in
+    λ lifetimes outlives. (omega (arith, counted, loop.fewer), (search rules, (loop.names_now, (free, roomy))))

@@ -1,12 +1,16 @@
-use Rattle.std.proofs.Common.{◌≡◌, ◌+◌, ◌*◌, ◌≤◌, ◌++◌, List, map}
+use Rattle.std.proofs.Common.{◌≡◌, ◌+◌, ◌*◌, ◌≤◌, ◌++◌, true, false, List, drop, map}
 use Rattle.rl_ast.specs.ExpressionViews.{seen_expression}
 use Rattle.rl_ast.specs.declared.expression.Expression.TheVariants as expression
 use Rattle.rl_builder.specs.Builder.{State, state_of}
+use Rattle.rl_grammar.specs.Fields.{maybe}
 use Rattle.rl_hir.specs.Pieces.{Piece, argument_pieces, element_pieces, gathered, property_pieces, value_pieces}
 use Rattle.rl_hir.specs.declared.instruction.Place.{Place}
-use Rattle.rl_lowered.specs.Lowered.{LoweredAll, LoweredLast, LoweredProperties}
+use Rattle.rl_lower_expressions.proofs.Derivations.{HasRow}
+use Rattle.rl_lower_expressions.proofs.TargetDerivations.{AreLeft}
+use Rattle.rl_lower_parts.specs.Patterns.{AreLowerableLeft, HasLeftRoom, all_left, seen_part}
+use Rattle.rl_lowered.specs.Lowered.{LoweredAll, LoweredLast, LoweredLater, LoweredProperties}
 use Rattle.rl_lowered.specs.Named.{IsNamed}
-use Rattle.rl_lowered.specs.Promised.{HasRoom, share}
+use Rattle.rl_lowered.specs.Promised.{HasRoom, nodes_left, share}
 use Rattle.rl_names.specs.Seen.{seen}
 use Rattle.rl_promises.specs.Lowerable.{AreLowerable, IsLowerable}
 use Rattle.rl_syntax.specs.Sizes.{size_of}
@@ -79,8 +83,37 @@ decreases-assignment::lower_assigned g l = 16 * (nodes (syntax l.target.tree.now
 abbrev pub decreases-assignment::lower_compound : goal.decreases-assignment::lower_compound
 decreases-assignment::lower_compound g l = 16 * (nodes (syntax l.target.tree.now) + nodes (syntax l.right.tree.now) + 1) + 1
 
+abbrev pub decreases-assignment::compound_name : goal.decreases-assignment::compound_name
+decreases-assignment::compound_name g l = 16 * (nodes (syntax l.name.tree.now) + nodes (syntax l.right.tree.now)) + 10
+
+abbrev pub decreases-assignment::compound_private : goal.decreases-assignment::compound_private
+decreases-assignment::compound_private g l = 16 * (nodes (syntax l.object.tree.now) + nodes (syntax l.right.tree.now)) + 10
+
 abbrev pub decreases-assignment::update_member_by : goal.decreases-assignment::update_member_by
 decreases-assignment::update_member_by g l = 16 * nodes (syntax l.right.tree.now) + 9
+
+abbrev pub decreases-target::lower_default : goal.decreases-target::lower_default
+decreases-target::lower_default g l = 16 * nodes (syntax l.default.tree.now) + 9
+
+abbrev pub decreases-target::lower_array_target : goal.decreases-target::lower_array_target
+decreases-target::lower_array_target g l =
+    16 * (nodes_of (shown l.items.trees.now) + nodes (maybe l.rest (λ t. syntax t.tree.now)) + 1) + 3
+
+abbrev pub decreases-target::lower_object_target : goal.decreases-target::lower_object_target
+decreases-target::lower_object_target g l =
+    16 * (nodes_of (shown l.properties.trees.now) + nodes (maybe l.rest (λ t. syntax t.tree.now)) + 1) + 3
+
+abbrev pub decreases-target::lower_target : goal.decreases-target::lower_target
+decreases-target::lower_target g l = 16 * nodes (syntax l.target.tree.now) + 4
+
+abbrev pub decreases-target::lower_maybe_default : goal.decreases-target::lower_maybe_default
+decreases-target::lower_maybe_default g l = 16 * nodes (syntax l.target.tree.now) + 5
+
+abbrev pub decreases-target::lower_left_part : goal.decreases-target::lower_left_part
+decreases-target::lower_left_part g l = 16 * nodes (seen_part l.left.part) + 6
+
+abbrev pub decreases-target::lower_left : goal.decreases-target::lower_left
+decreases-target::lower_left g l = 16 * nodes_left (all_left l.left.now) + 10
 
 abbrev pub decreases-access::lower_static : goal.decreases-access::lower_static
 decreases-access::lower_static g l = 16 * nodes (syntax l.object.tree.now) + 9
@@ -167,60 +200,44 @@ decreases-parts::lower_expressions-expressions g l = size_of (shown l.left.trees
 abbrev pub decreases-parts::lower_last-expressions : goal.decreases-parts::lower_last-expressions
 decreases-parts::lower_last-expressions g l = size_of (shown l.left.trees.now)
 
+-- The parts that wait may be lowered, and with them all are.
+abbrev pub invariant-target::lower_left-parts : goal.invariant-target::lower_left-parts
+invariant-target::lower_left-parts g l = record {
+  same_reference : l.builder.env.ghost_name ≡ l.initial.builder.env.ghost_name;
+  left : AreLeft (seen l.names) l.left (drop l.part-index l.left) (state_of g.U.ReadsUnit.tables l.initial.builder)
+      (state_of g.U.ReadsUnit.tables l.builder);
+}
+
 -- The arguments that are left may be lowered, and with them all are.
 abbrev pub invariant-parts::lower_arguments-arguments : goal.invariant-parts::lower_arguments-arguments
 invariant-parts::lower_arguments-arguments g l = record {
   same_reference : l.builder.env.ghost_name ≡ l.initial.builder.env.ghost_name;
-  names : IsNamed (seen l.names) (state_of g.U.ReadsUnit.tables l.builder);
-  may : AreLowerable (seen l.names) (shown l.left.trees.now);
-  room : HasRoom (state_of g.U.ReadsUnit.tables l.builder) (share (nodes_of (shown l.left.trees.now)));
-  fewer : nodes_of (shown l.left.trees.now) ≤ nodes_of (shown l.arguments.trees.now);
-  gives : (new : State) (more : List Piece)
-      → LoweredAll (seen l.names) (shown l.left.trees.now) (state_of g.U.ReadsUnit.tables l.builder) new more
-      → LoweredAll (seen l.names) (shown l.arguments.trees.now) (state_of g.U.ReadsUnit.tables l.initial.builder) new
-      (gathered argument_pieces l.given ++ more);
+  row : HasRow argument_pieces (seen l.names) false (shown l.arguments.trees.now) (shown l.left.trees.now)
+      (state_of g.U.ReadsUnit.tables l.initial.builder) (state_of g.U.ReadsUnit.tables l.builder) l.given;
 }
 
 -- The elements that are left may be lowered, and with them all are.
 abbrev pub invariant-parts::lower_elements-elements : goal.invariant-parts::lower_elements-elements
 invariant-parts::lower_elements-elements g l = record {
   same_reference : l.builder.env.ghost_name ≡ l.initial.builder.env.ghost_name;
-  names : IsNamed (seen l.names) (state_of g.U.ReadsUnit.tables l.builder);
-  may : AreLowerable (seen l.names) (shown l.left.trees.now);
-  room : HasRoom (state_of g.U.ReadsUnit.tables l.builder) (share (nodes_of (shown l.left.trees.now)));
-  fewer : nodes_of (shown l.left.trees.now) ≤ nodes_of (shown l.elements.trees.now);
-  gives : (new : State) (more : List Piece)
-      → LoweredAll (seen l.names) (shown l.left.trees.now) (state_of g.U.ReadsUnit.tables l.builder) new more
-      → LoweredAll (seen l.names) (shown l.elements.trees.now) (state_of g.U.ReadsUnit.tables l.initial.builder) new
-      (gathered element_pieces l.given ++ more);
+  row : HasRow element_pieces (seen l.names) false (shown l.elements.trees.now) (shown l.left.trees.now)
+      (state_of g.U.ReadsUnit.tables l.initial.builder) (state_of g.U.ReadsUnit.tables l.builder) l.given;
 }
 
 -- The properties that are left may be lowered, and with them all are.
 abbrev pub invariant-parts::lower_properties-properties : goal.invariant-parts::lower_properties-properties
 invariant-parts::lower_properties-properties g l = record {
   same_reference : l.builder.env.ghost_name ≡ l.initial.builder.env.ghost_name;
-  names : IsNamed (seen l.names) (state_of g.U.ReadsUnit.tables l.builder);
-  may : AreLowerable (seen l.names) (shown l.left.trees.now);
-  room : HasRoom (state_of g.U.ReadsUnit.tables l.builder) (share (nodes_of (shown l.left.trees.now)));
-  fewer : nodes_of (shown l.left.trees.now) ≤ nodes_of (shown l.properties.trees.now);
-  gives : (new : State) (more : List Piece)
-      → LoweredProperties (seen l.names) (shown l.left.trees.now) (state_of g.U.ReadsUnit.tables l.builder) new more
-      → LoweredProperties (seen l.names) (shown l.properties.trees.now) (state_of g.U.ReadsUnit.tables l.initial.builder) new
-      (gathered property_pieces l.given ++ more);
+  row : HasRow property_pieces (seen l.names) true (shown l.properties.trees.now) (shown l.left.trees.now)
+      (state_of g.U.ReadsUnit.tables l.initial.builder) (state_of g.U.ReadsUnit.tables l.builder) l.given;
 }
 
 -- The expressions that are left may be lowered, and with them all are.
 abbrev pub invariant-parts::lower_expressions-expressions : goal.invariant-parts::lower_expressions-expressions
 invariant-parts::lower_expressions-expressions g l = record {
   same_reference : l.builder.env.ghost_name ≡ l.initial.builder.env.ghost_name;
-  names : IsNamed (seen l.names) (state_of g.U.ReadsUnit.tables l.builder);
-  may : AreLowerable (seen l.names) (shown l.left.trees.now);
-  room : HasRoom (state_of g.U.ReadsUnit.tables l.builder) (share (nodes_of (shown l.left.trees.now)));
-  fewer : nodes_of (shown l.left.trees.now) ≤ nodes_of (shown l.expressions.trees.now);
-  gives : (new : State) (more : List Piece)
-      → LoweredAll (seen l.names) (shown l.left.trees.now) (state_of g.U.ReadsUnit.tables l.builder) new more
-      → LoweredAll (seen l.names) (shown l.expressions.trees.now) (state_of g.U.ReadsUnit.tables l.initial.builder) new
-      (gathered value_pieces l.given ++ more);
+  row : HasRow value_pieces (seen l.names) false (shown l.expressions.trees.now) (shown l.left.trees.now)
+      (state_of g.U.ReadsUnit.tables l.initial.builder) (state_of g.U.ReadsUnit.tables l.builder) l.given;
 }
 
 -- The last expression so far and those that are left may be lowered, and with them all are.

@@ -4,7 +4,7 @@ use Rattle.rl_names.specs.Seen.{seen}
 use Rattle.rl_runs.specs.Blocks.{size_of}
 use Rattle.rl_lower_expressions.proofs.AssignmentDerivations.{compound_constant_ok, compound_variable_ok}
 use Rattle.rl_lower_expressions.proofs.CallDerivations.{named_behind}
-use Rattle.rl_lower_expressions.proofs.MemberDerivations.{grown}
+use Rattle.rl_lower_parts.proofs.Derivations.{grown}
 use Rattle.rl_lower_expressions.proofs.assignment.update_local_by.Goals as goal
 
 pub resolve_variable-requires-2-clause-names : goal.resolve_variable-requires-2-clause-names
@@ -48,7 +48,8 @@ returns-then-is_const-clause-lowered g c =
 pub returns-clause-lowered : goal.returns-clause-lowered
 returns-clause-lowered g c =
     compound_variable_ok (state_of g.U.ReadsUnit.tables c.args.builder.now) c.lower_value_to_temporary-3.result (seen c.args.names.now)
-    c.args.at c.args.there c.args.symbol _ c.args.applied c.args.old c.args.right _ (sym c.is_const.ensures ∙ c.if-is_const.false) c.in_ok-updated.ensures.state c.in_ok-updated.ensures.place
+    c.args.at c.args.there c.args.symbol _ c.args.applied c.args.old c.args.right _ (sym c.is_const.ensures ∙ c.if-is_const.false)
+    c.in_ok-updated.ensures.state c.in_ok-updated.ensures.place
     c.in_ok-identifier.ensures.state c.in_ok-identifier.ensures.found c.assigned_to-store.ensures
     c.in_ok-lower_value_to_temporary.ensures.state
     c.lower_value_to_temporary-3.ensures.state c.lower_value_to_temporary-3.ensures.place

@@ -14,6 +14,7 @@ returns-in-Local-clause-lowered g c =
 pub returns-in_ok-name-in-Outer-clause-lowered : goal.returns-in_ok-name-in-Outer-clause-lowered
 returns-in_ok-name-in-Outer-clause-lowered g c =
     compound_global_ok (seen c.args.names.now) (state_of g.U.ReadsUnit.tables c.args.builder.now) c.lower_value_to_temporary-in-Outer.result
-    c.args.at c.args.identifier.now.at c.in-Outer._binding _ c.args.applied c.args.old c.args.right _ (sym c.in_ok-symbol.ensures ∙ c.in-Outer.is) c.in_ok-value-in-Outer.ensures.state
+    c.args.at c.args.identifier.now.at c.in-Outer._binding _ c.args.applied c.args.old c.args.right _
+    (sym c.in_ok-symbol.ensures ∙ c.in-Outer.is) c.in_ok-value-in-Outer.ensures.state
     c.in_ok-value-in-Outer.ensures.place c.in_ok-name-in-Outer.ensures
     c.lower_value_to_temporary-in-Outer.ensures.state c.lower_value_to_temporary-in-Outer.ensures.place

@@ -1,7 +1,7 @@
 use Rattle.std.proofs.Common.{◌≡◌, ℕ, ◌+◌, ◌≤◌, arith}
 use Rattle.rl_builder.specs.Builder.{State, state_of}
 use Rattle.rl_runs.specs.Blocks.{size_of}
-use Rattle.rl_lower_expressions.proofs.MemberDerivations.{grown}
+use Rattle.rl_lower_parts.proofs.Derivations.{grown}
 use Rattle.rl_lower_expressions.proofs.member.update_member.Goals as goal
 
 pub lower_value_to_temporary-requires-4 : goal.lower_value_to_temporary-requires-4

@@ -1,0 +1,12 @@
+pub mod Derivations
+pub mod Gathered
+pub mod Inside
+pub mod ItemDerivations
+pub mod ItemsInOrder
+pub mod LeftParts
+pub mod LookDerivations
+pub mod MovedDerivations
+pub mod NameDerivations
+pub mod ParsedNumbers
+pub mod PropertyDerivations
+pub mod TargetTrees
