@@ -1,11 +1,12 @@
 -- Derivations of declarators of variables.
-use Rattle.std.proofs.Common.{◌≡◌, ℕ, ◌+◌, ◌≤◌, Option, Some, None, Result, Ok, Err, OnOk, true, List, refl, sym, ap, ◌∙◌, subst, arith}
+use Rattle.std.proofs.Common.{◌≡◌, ℕ, ◌+◌, ◌≤◌, Bool, false, Option, Some, None, Result, Ok, Err, OnOk, true, List}
+use Rattle.std.proofs.Common.{refl, sym, ap, ◌∙◌, subst, arith}
 use Rattle.rl_base.specs.declared.span.Span.{Span}
 use Rattle.rl_base.specs.declared.stop.Stop.{Stop}
 use Rattle.rl_base.specs.declared.variable_kind.VariableKind.{VariableKind}
 use Rattle.rl_base.specs.VariableKinds.{variable_text}
 use Rattle.rl_builder.specs.Builder.{State}
-use Rattle.rl_builder.specs.Temporaries.{with_value}
+use Rattle.rl_builder.specs.Temporaries.{temporary, with_value}
 use Rattle.rl_grammar.specs.Fields.{maybe}
 use Rattle.rl_grammar.specs.Grammar.{fits}
 use Rattle.rl_grammar.specs.declared.kind.Field.TheVariants as field
@@ -14,20 +15,27 @@ use Rattle.rl_hir.specs.declared.instruction.InstructionKind.{InstructionKind}
 use Rattle.rl_hir.specs.declared.instruction.InstructionValue.{InstructionValue}
 use Rattle.rl_hir.specs.declared.instruction.InstructionValue.TheVariants as values
 use Rattle.rl_hir.specs.declared.instruction.Place.{Place}
-use Rattle.rl_lower.specs.Declarators.{IsDeclared, LowersDeclarator}
+use Rattle.rl_hir.specs.declared.instruction.PrimitiveValue.TheVariants as primitives
+use Rattle.rl_lower.specs.Declarators.{IsDeclared, IsMet, LowersDeclarator, respanned}
+use Rattle.rl_lower.specs.Patterns.{HasPatternRoom}
 use Rattle.rl_lowered.proofs.Names.{names_value}
+use Rattle.rl_lowered.proofs.Redeclared.{names_redeclared, size_redeclared}
 use Rattle.rl_lowered.proofs.Told.{told_statement}
 use Rattle.rl_lowered.specs.Forms.{IsAnnotation}
-use Rattle.rl_lowered.specs.Lowered.{LoweredDeclarators, declaring, kind_of}
+use Rattle.rl_lowered.specs.Items.{redeclared}
+use Rattle.rl_lowered.specs.Lowered.{LoweredDeclarators, LoweredPattern, declaring, kind_of}
 use Rattle.rl_lowered.specs.Lowered as lowered
 use Rattle.rl_lowered.specs.Named.{IsNamed}
-use Rattle.rl_lowered.specs.Promised.{LowersExpression, LowersStatement, share}
+use Rattle.rl_lowered.specs.Promised.{HasRoom, LowersExpression, LowersPattern, LowersStatement, share}
+use Rattle.rl_model.specs.Shapes.{is_absent}
 use Rattle.rl_names.specs.Names.{Names}
+use Rattle.rl_promises.specs.Lowerable.{IsLowerable}
+use Rattle.rl_promises.specs.Patterns.{takes_apart}
 use Rattle.rl_runs.specs.Blocks.{size_of}
 use Rattle.rl_syntax.specs.declared.numbered.At.{At}
 use Rattle.rl_syntax.specs.declared.word.Word.TheVariants as word
 use Rattle.rl_syntax.specs.Syntax.{Syntax, Node, Listed, Said, Count, Flag, Absent, Pieces, End, Then, nodes}
-use Rattle.rl_lower_expressions.proofs.MemberDerivations.{grown}
+use Rattle.rl_lower_parts.proofs.Derivations.{grown}
 
 -- A type that stands there, or none.
 
@@ -93,6 +101,66 @@ initialized_ok {names} {bind} {kind} {name} {type} {init} {identifier} {old} {be
           omega (arith, value, variable, first);
     }
 
+-- A declarator of a pattern.
+
+pub taken_told : {names : Names} {at : Span} {kind : InstructionKind} {pattern init : Syntax} {old t new : State} {p q : Place}
+    → takes_apart pattern ≡ true → is_absent init ≡ false → LowersExpression names init old t p
+    → LowersPattern names false kind at p pattern t new q → IsNamed names old
+    → (there : At) → LowersDeclarator names at kind (Node there word.Declarator (Then pattern (Then init End))) old new
+taken_told {names} {at} {kind} {pattern} {init} {old} {t} {new} {p} {q} apart present e l n there = record {
+  next = λ more last d. lowered.NextTakenApart there pattern init more old t new last p q apart present e.by l.by d;
+  named = l.named (e.named n);
+  size = omega (arith, e.size, l.size);
+}
+
+pub untaken_told : {names : Names} {at : Span} {kind : InstructionKind} {pattern : Syntax} {old t new : State} {p q : Place}
+    → takes_apart pattern ≡ true → t ≡ with_value old (values.Primitive primitives.Undefined) (Some at) → p ≡ temporary old (Some at)
+    → LowersPattern names false kind at p pattern t new q → IsNamed names old
+    → (there : At) → LowersDeclarator names at kind (Node there word.Declarator (Then pattern (Then Absent End))) old new
+untaken_told {names} {at} {kind} {pattern} {old} {t} {new} {p} {q} apart moved placed l n there = record {
+  next = λ more last d.
+      lowered.NextUntaken there pattern more old new last q apart
+      (subst (λ (o : State). LoweredPattern names false kind at (temporary old (Some at)) pattern o new q) moved
+      (subst (λ (v : Place). LoweredPattern names false kind at v pattern t new q) placed l.by)) d;
+  named = l.named (value_named names old t _ _ moved n);
+  size = omega (arith, grown old t _ _ moved, l.size);
+}
+
+pub untaken_named : {names : Names} (at : Span) (old t : State) → t ≡ with_value old (values.Primitive primitives.Undefined) (Some at)
+    → IsNamed names old → IsNamed names t
+untaken_named {names} at old t moved n = value_named names old t _ _ moved n
+
+pub untaken_room : (at : Span) (pattern : Syntax) (old t : State) → t ≡ with_value old (values.Primitive primitives.Undefined) (Some at)
+    → HasRoom old (share (nodes pattern + 1)) → HasPatternRoom t pattern
+untaken_room at pattern old t moved room = omega (arith, grown old t _ _ moved, room)
+
+pub taken_room : {names : Names} {init : Syntax} {p : Place} (pattern : Syntax) (old t : State) → LowersExpression names init old t p
+    → HasRoom old (share (nodes pattern + nodes init + 1)) → HasPatternRoom t pattern
+taken_room pattern old t e room = omega (arith, e.size, room)
+
+-- A name that is met again in the head of a loop.
+pub met_told : {names : Names} {bind : At} {old mid : State} {identifier : ℕ} (again : Bool) (new : State)
+    → IsDeclared names bind old mid identifier → new ≡ respanned again mid identifier bind.span
+    → IsMet names again bind old new identifier
+met_told {names} {bind} {old} {mid} {identifier} true new d after = record {
+  symbol = d.symbol;
+  declared = d.declared;
+  moved = after ∙ ap (λ (s : State). redeclared s identifier bind.span) d.moved;
+  bound = d.bound;
+  named = subst (IsNamed names) (sym after) ((names_redeclared {names = names} mid identifier bind.span).named d.named);
+  size =
+      let same : size_of new ≡ size_of mid = ap size_of after ∙ size_redeclared mid identifier bind.span in
+      omega (arith, same, d.size);
+}
+met_told {names} {bind} {old} {mid} {identifier} false new d after = record {
+  symbol = d.symbol;
+  declared = d.declared;
+  moved = after ∙ d.moved;
+  bound = d.bound;
+  named = subst (IsNamed names) (sym after) d.named;
+  size = let same : size_of new ≡ size_of mid = ap size_of after in omega (arith, same, d.size);
+}
+
 -- A declarator, from the views of its parts: of its name, of its initializer, and of it.
 
 declarator_told : {names : Names} {span : Span} {kind : InstructionKind} {at : At} {bind pattern init shown tree : Syntax}
@@ -120,6 +188,29 @@ pub initialized_declarator_ok : {at : At} {bind pattern init shown tree : Syntax
     → OnOk r (LowersDeclarator names span kind tree old new)
 initialized_declarator_ok {at} names span kind old new (Ok x) binds inits is l = declarator_told binds inits is (l at)
 initialized_declarator_ok names span kind old new (Err e) binds inits is l = tt
+
+-- The parts of a declarator of a pattern.
+
+pub declarator_parts_may : (names : Names) {at : At} {pattern init shown tree : Syntax} → init ≡ shown
+    → Node at word.Declarator (Then pattern (Then shown End)) ≡ tree → IsLowerable names tree
+    → IsLowerable names pattern × IsLowerable names init
+declarator_parts_may names inits is may =
+    let both = (subst (IsLowerable names) (sym is) may).1 in (both.0, subst (IsLowerable names) (sym inits) both.1.0)
+
+pub declarator_parts_room : {at : At} {pattern init shown tree : Syntax} (s : State) → init ≡ shown
+    → Node at word.Declarator (Then pattern (Then shown End)) ≡ tree → HasRoom s (share (nodes tree))
+    → HasRoom s (share (nodes pattern + nodes init + 1))
+declarator_parts_room {at} {pattern} {init} {shown} {tree} s inits is room =
+    let counted : nodes (Node at word.Declarator (Then pattern (Then shown End))) ≡ nodes tree = ap nodes is in
+    let same : nodes init ≡ nodes shown = ap nodes inits in
+    omega (arith, counted, same, room)
+
+pub declarator_room : {at : At} {pattern shown tree : Syntax} (s : State) → Absent ≡ shown
+    → Node at word.Declarator (Then pattern (Then shown End)) ≡ tree → HasRoom s (share (nodes tree))
+    → HasRoom s (share (nodes pattern + 1))
+declarator_room {pattern = pattern} s inits is room =
+    let both : HasRoom s (share (nodes pattern + 0 + 1)) = declarator_parts_room s inits is room in
+    omega (arith, both)
 
 -- Behind the last declarator.
 

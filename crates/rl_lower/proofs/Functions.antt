@@ -18,6 +18,7 @@ use Rattle.rl_hir.specs.declared.function.BlockKind.TheVariants as block_kinds
 use Rattle.rl_hir.specs.declared.function.Hir.{Hir}
 use Rattle.rl_hir.specs.declared.function.HirFunction.{HirFunction}
 use Rattle.rl_hir.specs.declared.function.Pair.{Pair}
+use Rattle.rl_hir.specs.declared.function.Param.{Param}
 use Rattle.rl_hir.specs.declared.environment.Environment.{Environment}
 use Rattle.rl_hir.specs.declared.instruction.Instruction.{Instruction}
 use Rattle.rl_hir.specs.declared.instruction.InstructionValue.TheVariants as values
@@ -31,6 +32,7 @@ use Rattle.rl_lower.specs.Endings.{closed_off, hir_of, with_undefined}
 use Rattle.rl_lowered.proofs.StepMoves.{apart_ended as steps_ended, apart_then, apart_value}
 use Rattle.rl_lowered.proofs.Stepless.{stepless_whole, unread_whole}
 use Rattle.rl_lowered.proofs.UnreadMoves.{unreads_ended, unreads_then, unreads_value}
+use Rattle.rl_lowered.specs.Params.{HaveArguments, RunsParams, take_others}
 use Rattle.rl_lowered.specs.Steps.{KeepsStepsApart}
 use Rattle.rl_machine.proofs.Silence.{settled_walks, settles_passes_once}
 use Rattle.rl_machine.specs.Conditions.{MayOrder}
@@ -67,7 +69,7 @@ use Rattle.rl_runs.specs.Moves.{return_of}
 use Rattle.rl_runs.specs.ReadNotes.{KeepsUnread, Unread}
 use Rattle.rl_runs.specs.Simulation.{RunsStatement}
 use Rattle.rl_runs.specs.StepNotes.{Stepless}
-use Rattle.rl_syntax.specs.Syntax.{Syntax}
+use Rattle.rl_syntax.specs.Syntax.{Pieces, Syntax}
 
 -- The return at the end of a body.
 abbrev last_end : State → Terminal
@@ -265,40 +267,77 @@ nothing_jumps c begun s store notes answers scopes breaks continues none = recor
     no_continue : {X : Type 0} (label : Label) (block : BlockId) → lookup_continue [] label ≡ Ok block → X
     no_continue label block is = absurd (cc)
 
--- The completed blocks have the traces of the body.
-pub function_runs : (scene : Scene) (begun s : State) (m : Action (Unit {0})) (ident : ℕ → Option ℕ) (world : World) (fresh : IsFresh begun)
+-- The runs of parameters and then of a body, whose meaning is `m`, from the states in which they were lowered.
+pub record RunsFunction (scene : Scene) (items : Pieces) (last : Syntax) (places : List Param) (m : Action (Unit {0}))
+    (begun given s : State) : Type 0 where
+  pub first : PreservesBlocks begun given
+  pub second : PreservesBlocks given s
+  pub params : RunsParams scene items last places begun given
+  pub body : RunsStatement scene.world m given s
+
+-- The meaning of the parameters that are no plain names, and then of the body and of its end.
+abbrev pub function_trace : Scene → (items : Pieces) → (last : Syntax) → Action (Unit {0}) → List Value → Store → List Answer → Trace
+function_trace scene items last m arguments source answers =
+    take_others scene items last arguments outside (λ (end : Unit {0}). body_trace scene m outside) source answers
+
+-- The completed blocks have the traces of the parameters and the body.
+pub function_runs : (scene : Scene) (items : Pieces) (last : Syntax) (places : List Param) (m : Action (Unit {0})) (begun given s : State)
+    (ident : ℕ → Option ℕ) (world : World) (fresh : IsFresh begun)
     → HasSoundNames begun → (b : PreservesBlocks begun s) (fits : (closed_off s).env.next_block < 2 ^ 32)
-    → CoversNames (closed_off s).env.pairs (length (closed_off s).env.identifiers) ident → RunsStatement scene.world m begun s
+    → CoversNames (closed_off s).env.pairs (length (closed_off s).env.identifiers) ident
+    → RunsFunction scene items last places m begun given s
     → SharesVariables ident scene.world world
-    → (source store : Store) (notes : Notes) (answers : List Answer) → Agrees ident source store
+    → (arguments : List Value) (source store : Store) (notes : Notes) (answers : List Answer) → Agrees ident source store
+    → HaveArguments store items places arguments
     → TracesAt (function_code begun s fresh b fits ident world)
-    (closed_off s).entry.0 0 store notes answers (body_trace scene m outside source answers)
-function_runs scene begun s m ident world fresh sound b fits covers r shares source store notes answers agrees =
-    let c : Code = function_code begun s fresh b fits ident world in
-    let trace : Trace = body_trace scene m outside source answers in
-    let cover : IsContainedIn (closed_off s) c =
-    finished_contained (closed_off s) (function_finished begun s fresh b fits) ident world covers in
-    let no_handlers : s.handlers ≡ [] = b.extends.handlers ∙ fresh.handlers in
-    let goes : TracesFrom c begun store notes answers trace =
-    r.runs c (contained_before (extends_closed s) cover) sound shares outside
-    (λ after rest. returned (kept_values scene after) returns.Void value.Undefined) source store notes answers agrees
-    (subst (λ (h : List BlockId). Throws c (between begun s) store notes answers (innermost h) outside.throws) (sym fresh.handlers)
-    (λ v after rest. refl))
-    (nothing_jumps c begun s store notes answers begun.scopes outside.breaks outside.continues fresh.scopes)
-    (record {
-      goes =
-          λ after later left rest t. falls_off scene.world s c cover (b.extends.sound sound) shares no_handlers after later left rest
-          t.agrees;
-    }) in
+    (closed_off s).entry.0 0 store notes answers (function_trace scene items last m arguments source answers)
+function_runs scene items last places m begun given s ident world fresh sound b fits covers r shares arguments source store notes answers
+    agrees have =
     subst (λ (id : ℕ). TracesAt c id 0 store notes answers trace) (sym (entry_is begun s fresh b fits))
     (subst (λ (listed : List InstructionId). TracesAt c begun.current.id.0 (length listed) store notes answers trace) fresh.instructions
-    goes)
+    (r.params.runs c (contained_before r.second.extends at_body) sound shares outside (body_trace scene m outside) arguments source store
+    notes answers agrees have
+    (subst (λ (h : List BlockId). Throws c (between begun given) store notes answers (innermost h) outside.throws) (sym fresh.handlers)
+    (λ v after rest. refl))
+    (record { goes = λ after later left rest t. body_goes after later left rest t.agrees })))
+  where
+    c : Code
+    c = function_code begun s fresh b fits ident world
+
+    trace : Trace
+    trace = function_trace scene items last m arguments source answers
+
+    cover : IsContainedIn (closed_off s) c
+    cover = finished_contained (closed_off s) (function_finished begun s fresh b fits) ident world covers
+
+    at_body : IsContainedIn s c
+    at_body = contained_before (extends_closed s) cover
+
+    unhandled : given.handlers ≡ []
+    unhandled = r.first.extends.handlers ∙ fresh.handlers
+
+    unscoped : given.scopes ≡ []
+    unscoped = r.first.extends.scopes ∙ fresh.scopes
+
+    body_goes : (after later : Store) (left : Notes) (rest : List Answer) → Agrees ident after later
+        → TracesFrom c given later left rest (body_trace scene m outside after rest)
+    body_goes after later left rest a =
+        r.body.runs c at_body (r.first.extends.sound sound) shares outside
+        (λ end more. returned (kept_values scene end) returns.Void value.Undefined) after later left rest a
+        (subst (λ (h : List BlockId). Throws c (between given s) later left rest (innermost h) outside.throws) (sym unhandled)
+        (λ v end more. refl))
+        (nothing_jumps c given s later left rest given.scopes outside.breaks outside.continues unscoped)
+        (record {
+          goes = λ end behind notes1 more t.
+              falls_off scene.world s c cover (b.extends.sound sound) shares (r.second.extends.handlers ∙ unhandled) end behind notes1 more
+              t.agrees;
+        })
 
 -- The function that is built has the traces of its source, whatever trace a stuck run has: `build` keeps the runs of the completed blocks.
-pub function_runs_by : (scene : Scene) (world : World) (begun s : State) (m : Action (Unit {0})) → IsFresh begun → HasSoundNames begun
-    → PreservesBlocks begun s → (closed_off s).env.next_block < 2 ^ 32 → KeepsUnread begun s → KeepsStepsApart begun s
-    → RunsStatement scene.world m begun s
-    → (f : HirFunction (List BlockPair)) (pairs : List Pair)
+pub function_runs_by : (scene : Scene) (world : World) (items : Pieces) (last_item : Syntax) (m : Action (Unit {0})) (begun given s : State)
+    → IsFresh begun → HasSoundNames begun
+    → (closed_off s).env.next_block < 2 ^ 32 → PreservesBlocks begun s → KeepsUnread begun s → KeepsStepsApart begun s
+    → (f : HirFunction (List BlockPair)) (pairs : List Pair) → RunsFunction scene items last_item f.params m begun given s
     → CoversNames (closed_off s).env.pairs (length (closed_off s).env.identifiers) (λ symbol. identifier_of pairs symbol)
     → SharesVariables (λ symbol. identifier_of pairs symbol) scene.world world
     → (function : Syntax)
@@ -308,12 +347,15 @@ pub function_runs_by : (scene : Scene) (world : World) (begun s : State) (m : Ac
     → (source : List Assignment → List Value → Store)
     → ((start : List Assignment) (arguments : List Value)
     → Agrees (λ symbol. identifier_of pairs symbol) (source start arguments) (take_arguments f.params arguments (start_values pairs start)))
+    → ((start : List Assignment) (arguments : List Value)
+    → HaveArguments (take_arguments f.params arguments (start_values pairs start)) items f.params arguments)
     → ((start : List Assignment) (arguments : List Value) (answers : List Answer)
-    → run_function scene function start arguments answers ≡ body_trace scene m outside (source start arguments) answers)
+    → run_function scene function start arguments answers
+    ≡ function_trace scene items last_item m arguments (source start arguments) answers)
     → (stuck : Trace) (start : List Assignment) (arguments : List Value) (answers : List Answer)
     → trace_by stuck world f pairs start arguments answers ≡ run_function scene function start arguments answers
-function_runs_by scene world begun s m fresh sound b fits kept steps r f pairs covers shares function built env is_built table_is unlinked
-    body_is instructions_is source agrees means stuck start arguments answers =
+function_runs_by scene world items last_item m begun given s fresh sound fits b kept steps f pairs r covers shares function built env
+    is_built table_is unlinked body_is instructions_is source agrees have means stuck start arguments answers =
     ap (λ (h : Hir (List BlockPair)). graph_trace stuck (record { blocks = h.blocks; table = f.instructions; entry = h.entry }) ident world
     params start arguments answers) body_is
     ∙ ap (λ (l : List Instruction). graph_trace stuck (record { blocks = built.blocks; table = l; entry = built.entry }) ident world params
@@ -338,7 +380,7 @@ function_runs_by scene world begun s m fresh sound b fits kept steps r f pairs c
     store = take_arguments f.params arguments (start_values pairs start)
 
     trace : Trace
-    trace = body_trace scene m outside (source start arguments) answers
+    trace = function_trace scene items last_item m arguments (source start arguments) answers
 
     ordered : MayOrder (completed_graph last)
     ordered = function_may begun s fresh b fits kept steps ident world covers unlinked
@@ -359,8 +401,8 @@ function_runs_by scene world begun s m fresh sound b fits kept steps r f pairs c
 
     goes : TracesAt (function_code begun s fresh b fits ident world) last.entry.0 0 store no_notes answers trace
     goes =
-        function_runs scene begun s m ident world fresh sound b fits covers r shares (source start arguments) store no_notes answers
-        (agrees start arguments)
+        function_runs scene items last_item f.params m begun given s ident world fresh sound b fits covers r shares arguments
+        (source start arguments) store no_notes answers (agrees start arguments) (have start arguments)
 
     enough : ℕ
     enough = goes.by.0 + steps_for answers (positions last.completed)

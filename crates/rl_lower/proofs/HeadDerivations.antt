@@ -20,26 +20,29 @@ use Rattle.rl_hir.specs.declared.instruction.InstructionValue.TheVariants as val
 use Rattle.rl_hir.specs.declared.instruction.NonLocalBinding.{NonLocalBinding}
 use Rattle.rl_hir.specs.declared.instruction.Place.{Place}
 use Rattle.rl_lower.specs.Declarators.{IsDeclared}
+use Rattle.rl_lower.specs.Patterns.{HasPatternRoom}
 use Rattle.rl_lower_expressions.specs.Members.{LowersMember, key_of}
 use Rattle.rl_lower_expressions.specs.declared.member.LoweredMember.{LoweredMember}
 use Rattle.rl_lowered.proofs.Redeclared.{size_redeclared}
 use Rattle.rl_lowered.proofs.Told.{told_head}
 use Rattle.rl_lowered.specs.Forms.{IsAnnotation, store_of}
-use Rattle.rl_lowered.specs.Lowered.{LoweredHead, found_again, redeclared}
+use Rattle.rl_lowered.specs.Items.{found_again, redeclared}
+use Rattle.rl_lowered.specs.Lowered.{LoweredHead, LoweredTarget}
 use Rattle.rl_lowered.specs.Lowered as lowered
 use Rattle.rl_lowered.specs.Named.{IsFound, found}
-use Rattle.rl_lowered.specs.Promised.{HasRoom, LowersHead}
+use Rattle.rl_lowered.specs.Promised.{HasRoom, LowersHead, LowersPattern, LowersTarget, share}
 use Rattle.rl_names.specs.Names.{Names}
 use Rattle.rl_names.specs.declared.names.Meaning.TheVariants.{Local, Outer}
 use Rattle.rl_promises.specs.Conditions.{is_bare, is_one_bare, is_plain_head}
-use Rattle.rl_promises.specs.Lowerable.{IsLowerable, IsLowerableHead, Where}
+use Rattle.rl_promises.specs.Lowerable.{AreLowerable, IsLowerable, IsLowerableHead, IsLowerableTo, Where}
 use Rattle.rl_promises.specs.Outs.{is_lost_head}
+use Rattle.rl_promises.specs.Patterns.{is_pattern, takes_apart}
 use Rattle.rl_promises.specs.Rows.{refusal, row_of_head}
 use Rattle.rl_runs.specs.Blocks.{size_of}
 use Rattle.rl_syntax.specs.declared.numbered.At.{At}
 use Rattle.rl_syntax.specs.declared.word.Word.{Word}
 use Rattle.rl_syntax.specs.declared.word.Word.TheVariants as word
-use Rattle.rl_syntax.specs.Syntax.{Syntax, Node, Listed, Said, Count, Flag, Absent, Pieces, End, Then}
+use Rattle.rl_syntax.specs.Syntax.{Syntax, Node, Listed, Said, Count, Flag, Absent, Pieces, End, Then, nodes, nodes_of}
 
 pub head_derived : {names : Names} {value : Place} (tree e : Syntax) (s t new : State) (p place : Place) → e ≡ tree → new ≡ t → place ≡ p
     → LoweredHead names value e s t p → LowersHead names value tree s new place
@@ -60,25 +63,38 @@ declaration_kept (Node at word.Assert parts) fit = absurd (cc)
 declaration_kept (Node at word.Nonnull parts) fit = absurd (cc)
 declaration_kept _ fit = refl
 
-pub kept_may : (names : Names) (head : Syntax) → is_lost_head head ≡ false → Where (not (is_lost_head head)) (IsLowerable names head)
-    → IsLowerable names head
-kept_may names head kept may = subst (λ (b : Bool). Where (not b) (IsLowerable names head)) kept may
+-- Nor does it take a value apart as a target.
+pub declaration_plain : (tree : Syntax) → fits (field.One sort.VariableDeclaration) tree ≡ true → is_pattern tree ≡ false
+declaration_plain (Node at word.Arraytarget parts) fit = absurd (cc)
+declaration_plain (Node at word.Objecttarget parts) fit = absurd (cc)
+declaration_plain _ fit = refl
+
+-- The head of a kind that is not left out, and that takes nothing apart as a target.
+pub shown_may : (names : Names) {tree head : Syntax} → tree ≡ head → is_pattern tree ≡ false → is_lost_head tree ≡ false
+    → Where (not (is_pattern head)) (Where (not (is_lost_head head)) (IsLowerable names head)) → IsLowerable names head
+shown_may names {tree} {head} is plain kept may =
+    subst (λ (b : Bool). Where (not b) (IsLowerable names head)) (sym (ap is_lost_head is) ∙ kept)
+    (subst (λ (b : Bool). Where (not b) (Where (not (is_lost_head head)) (IsLowerable names head))) (sym (ap is_pattern is) ∙ plain) may)
 
 pub declaration_may : (names : Names) {tree head : Syntax} → fits (field.One sort.VariableDeclaration) tree ≡ true → tree ≡ head
     → IsLowerableHead names head → IsLowerable names tree
 declaration_may names {tree} {head} fit is may =
-    kept_may names tree (declaration_kept tree fit)
-    (subst (λ (t : Syntax). Where (not (is_lost_head t)) (IsLowerable names t)) (sym is) may.lowerable)
+    subst (IsLowerable names) (sym is) (shown_may names is (declaration_plain tree fit) (declaration_kept tree fit) may.lowerable)
 
 pub target_head_may : (names : Names) {tree head : Syntax} → tree ≡ head → IsLowerableHead names head
-    → Where (not (is_lost_head tree)) (IsLowerable names tree)
+    → Where (not (is_pattern tree)) (Where (not (is_lost_head tree)) (IsLowerable names tree))
 target_head_may names {tree} {head} is may =
-    subst (λ (t : Syntax). Where (not (is_lost_head t)) (IsLowerable names t)) (sym is) may.lowerable
+    subst (λ (t : Syntax). Where (not (is_pattern t)) (Where (not (is_lost_head t)) (IsLowerable names t))) (sym is) may.lowerable
 
--- The target of a kind that is not left out.
-pub shown_may : (names : Names) {tree head : Syntax} → tree ≡ head → is_lost_head tree ≡ false
-    → Where (not (is_lost_head head)) (IsLowerable names head) → IsLowerable names head
-shown_may names {tree} {head} is kept may = kept_may names head (sym (ap is_lost_head is) ∙ kept) may
+pub target_head_taken : (names : Names) {tree head : Syntax} → tree ≡ head → IsLowerableHead names head
+    → Where (is_pattern tree) (IsLowerableTo names tree)
+target_head_taken names is may = subst (λ (t : Syntax). Where (is_pattern t) (IsLowerableTo names t)) (sym is) may.taken
+
+-- A target that takes a value apart.
+pub pattern_may : (names : Names) {tree head : Syntax} → tree ≡ head → is_pattern tree ≡ true
+    → Where (is_pattern head) (IsLowerableTo names head) → IsLowerableTo names head
+pattern_may names {tree} {head} is apart may =
+    subst (λ (b : Bool). Where b (IsLowerableTo names head)) (sym (ap is_pattern is) ∙ apart) may
 
 -- The one declarator of a head, which has no initializer.
 
@@ -174,6 +190,39 @@ variables_head_ok names value {at} {there} kind {bind = bind} (Ok place) s new i
     ∙ one_declared is plain split views) (l (variable_text kind) there)
 variables_head_ok names value kind (Err e) s new is plain split views binds l = tt
 
+-- A declaration of a pattern.
+
+pub declared_pattern_may : (names : Names) {at there : At} {kind : List ℕ} {declarators rest : Pieces} {tree first pattern init : Syntax}
+    → Node at word.Var (Then (Said kind) (Then (Listed declarators) End)) ≡ tree → declarators ≡ Then first rest
+    → Node there word.Declarator (Then pattern (Then init End)) ≡ first → IsLowerable names tree → IsLowerable names pattern
+declared_pattern_may names is split views may =
+    (subst (IsLowerable names) (sym views)
+    (subst (AreLowerable names) split (subst (IsLowerable names) (sym is) may).1.1.0).0).1.0
+
+pub declared_pattern_room : {at there : At} {kind : List ℕ} {declarators rest : Pieces} {tree first pattern init : Syntax} (s : State)
+    → Node at word.Var (Then (Said kind) (Then (Listed declarators) End)) ≡ tree → declarators ≡ Then first rest
+    → Node there word.Declarator (Then pattern (Then init End)) ≡ first → HasRoom s (share (nodes tree)) → HasPatternRoom s pattern
+declared_pattern_room {at} {there} {kind} {declarators} {rest} {tree} {first} {pattern} {init} s is split views room =
+    let all : nodes (Node at word.Var (Then (Said kind) (Then (Listed declarators) End))) ≡ nodes tree = ap nodes is in
+    let one : nodes_of declarators ≡ nodes first + nodes_of rest = ap nodes_of split in
+    let counted : nodes (Node there word.Declarator (Then pattern (Then init End))) ≡ nodes first = ap nodes views in
+    omega (arith, all, one, counted, room)
+
+pub declared_pattern_ok : (names : Names) (value : Place) {at there : At} (kind : VariableKind) {declarators rest : Pieces}
+    {tree first pattern init : Syntax} (r : Result Place Stop) (s new : State)
+    → Node at word.Var (Then (Said (variable_text kind)) (Then (Listed declarators) End)) ≡ tree → is_plain_head tree ≡ true
+    → declarators ≡ Then first rest → Node there word.Declarator (Then pattern (Then init End)) ≡ first → takes_apart pattern ≡ true
+    → IfOk r (λ place. LowersPattern names true kinds.Let at.span value pattern s new place)
+    → IfOk r (λ place. LowersHead names value tree s new place)
+declared_pattern_ok names value {at} {there} kind {declarators} {rest} {tree} {first} {pattern} (Ok place) s new is plain split views apart
+    l =
+    head_derived tree
+    (Node at word.Var
+    (Then (Said (variable_text kind)) (Then (Listed (Then (Node there word.Declarator (Then pattern (Then Absent End))) End)) End)))
+    s new new place place (one_declared is plain split views) refl refl
+    (lowered.DeclaredPattern at there (variable_text kind) pattern s new place apart l.by)
+declared_pattern_ok names value kind (Err e) s new is plain split views apart l = tt
+
 -- Names.
 
 pub reassigned_ok : {s mid : State} (r : Result Place Stop) (names : Names) (value : Place) (at : At) (symbol : SymbolId) (identifier : ℕ)
@@ -237,3 +286,14 @@ lost_ok names {tree} {at} {w} {fields} value r (Ok place) s new is lost rows not
     head_derived tree (Node at w fields) s _ new _ place is
     (noted ∙ ap (λ (x : Row). recorded s (refusal x at.span)) rows) placed (lowered.Lost at w fields s lost)
 lost_ok names value r (Err e) s new is lost rows noted placed = tt
+
+-- A target that takes the value apart.
+pub pattern_head_ok : (names : Names) {tree : Syntax} {at : At} {w : Word} {fields : Pieces} (value : Place) (r : Result Place Stop)
+    (s new : State) → Node at w fields ≡ tree → is_pattern (Node at w fields) ≡ true
+    → IfOk r (λ place. LowersTarget names at.span value tree s new place)
+    → IfOk r (λ place. LowersHead names value tree s new place)
+pattern_head_ok names {tree} {at} {w} {fields} value (Ok place) s new is apart l =
+    head_derived tree (Node at w fields) s new new place place is refl refl
+    (lowered.StoredPattern at w fields s new place apart
+    (subst (λ (e : Syntax). LoweredTarget names at.span value e s new place) (sym is) l.by))
+pattern_head_ok names value (Err e) s new is apart l = tt

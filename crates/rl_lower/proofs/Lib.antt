@@ -10,11 +10,13 @@ pub mod Functions
 pub mod GivenNames
 pub mod HeadDerivations
 pub mod HeldNodes
+pub mod ItemDerivations
 pub mod Linked
 pub mod LoopDerivations
-pub mod Parameters
+pub mod LoweredFunctions
+pub mod ParamDerivations
+pub mod PatternDerivations
 pub mod Ranges
-pub mod Resolving
 pub mod RoundDerivations
 pub mod SoundGraphs
 pub mod SoundOrders

@@ -46,7 +46,7 @@ use Rattle.rl_runs.specs.Moves.{block_id, next_hole}
 use Rattle.rl_syntax.specs.declared.numbered.At.{At}
 use Rattle.rl_syntax.specs.declared.word.Word.TheVariants as word
 use Rattle.rl_syntax.specs.Syntax.{Syntax, Node, Listed, Said, Count, Flag, Absent, Pieces, End, Then, nodes, span_of}
-use Rattle.rl_lower_expressions.proofs.Derivations.{room_after}
+use Rattle.rl_lower_parts.proofs.Derivations.{room_after}
 use Rattle.rl_lower.proofs.StatementDerivations.{statement_derived}
 
 -- Jumps.

@@ -30,7 +30,7 @@ use Rattle.rl_runs.specs.Blocks.{size_of}
 use Rattle.rl_syntax.specs.declared.numbered.At.{At}
 use Rattle.rl_syntax.specs.declared.word.Word.TheVariants as word
 use Rattle.rl_syntax.specs.Syntax.{Syntax, Node, Flag, End, Then, span_of}
-use Rattle.rl_lower_expressions.proofs.Derivations.{room_after}
+use Rattle.rl_lower_parts.proofs.Derivations.{room_after}
 use Rattle.rl_lower.proofs.LoopDerivations.{loop_derived, moved_named, moved_room}
 
 -- The derivations.

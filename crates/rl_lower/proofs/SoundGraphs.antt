@@ -1,25 +1,22 @@
 -- The graph of a function has known places and, where the function is small, writable parts.
-use Rattle.std.proofs.Common.{◌≡◌, ℕ, ◌+◌, ◌<◌, ◌≤◌, ◌^◌, ◌++◌, List, [], ◌∷◌, length, length-append, lit<, map, All, Option, Some, None}
-use Rattle.std.proofs.Common.{refl, sym, ap, ◌∙◌, subst, arith}
+use Rattle.std.proofs.Common.{◌≡◌, ℕ, ◌+◌, ◌<◌, ◌≤◌, ◌^◌, ◌++◌, List, [], ◌∷◌, length, length-append, map, All, Some, None}
+use Rattle.std.proofs.Common.{sym, ap, ◌∙◌, subst, arith}
 use Rattle.std.specs.Str.{IsUtf8}
-use Rattle.std.proofs.lemmas.List.Elements.{All-nil, All-cons, All-append, All-head, All-push, All-same, All-tail}
+use Rattle.std.proofs.lemmas.List.Elements.{All-nil, All-push, All-same, All-weaker}
 use Rattle.rl_base.specs.declared.ids.BlockId.{BlockId}
 use Rattle.rl_base.specs.declared.ids.InstructionId.{InstructionId}
 use Rattle.rl_base.specs.declared.span.Span.{Span}
 use Rattle.rl_builder.specs.Build.{IsBuilt, graph_of}
 use Rattle.rl_builder.specs.Builder.{State, completed_by, placeholder}
-use Rattle.rl_builder.specs.Names.{new_span}
 use Rattle.rl_builder.specs.Temporaries.{temporary}
 use Rattle.rl_hir.specs.Blocks.{Pair as BlockPair}
 use Rattle.rl_hir.specs.Listing as listing
-use Rattle.rl_hir.specs.Pairs.{pair}
 use Rattle.rl_hir.specs.declared.environment.Environment.{Environment}
 use Rattle.rl_hir.specs.declared.function.Hir.{Hir}
 use Rattle.rl_hir.specs.declared.function.HirFunction.{HirFunction}
 use Rattle.rl_hir.specs.declared.function.Identifier.{Identifier}
 use Rattle.rl_hir.specs.declared.function.Pair.{Pair}
 use Rattle.rl_hir.specs.declared.function.Param.{Param}
-use Rattle.rl_hir.specs.declared.function.Param.TheVariants as given
 use Rattle.rl_hir.specs.declared.instruction.Instruction.{Instruction}
 use Rattle.rl_hir.specs.declared.instruction.Place.{Place}
 use Rattle.rl_hir.specs.declared.terminal.ReturnVariant.TheVariants as returns
@@ -28,94 +25,44 @@ use Rattle.rl_lower.proofs.Builds.{closed_env, closed_fits, closed_size, closed_
 use Rattle.rl_lower.proofs.Closings.{closed_is}
 use Rattle.rl_lower.proofs.FunctionGraphs.{begun_fresh}
 use Rattle.rl_lower.proofs.Functions.{extends_closed}
-use Rattle.rl_lower.proofs.FunctionTrees.{IsFunction, function_parameters, function_symbols}
-use Rattle.rl_lower.proofs.Parameters.{identifier_for, known_from, known_length, pairs_from, span_given, state_with}
+use Rattle.rl_lower.proofs.FunctionTrees.{IsFunction, function_small}
+use Rattle.rl_lower.proofs.LoweredFunctions.{AreSmall, LowersFunction, lowered_both, nodes_in}
 use Rattle.rl_lower.proofs.SoundOrders.{built_table_known, built_terminals_known, built_writable}
 use Rattle.rl_lower.specs.Begun.{FunctionTables, begun_by}
 use Rattle.rl_lower.specs.Endings.{closed_off, hir_of, with_undefined}
-use Rattle.rl_lower.specs.Parameters.{AreDeclaredAt}
 use Rattle.rl_lower.specs.Sound.{IsSoundGraph, IsWritableGraph}
-use Rattle.rl_lowered.proofs.SoundListing.{function_writable, named_writable, place_writable, span_writable, unnamed_writable}
-use Rattle.rl_lowered.proofs.SoundMoves.{counters_before, none_known, sound_next, table_more, terminals_more}
-use Rattle.rl_lowered.specs.Named.{declared_span}
-use Rattle.rl_lowered.specs.Promised.{HasRoom, LowersBody, share}
-use Rattle.rl_lowered.specs.Sound.{AreWritableIdentifiers, AreWritablePairs, HasKnownParts, HasSmallCounters, HasSmallSymbol}
-use Rattle.rl_lowered.specs.Sound.{HasSmallTargets}
-use Rattle.rl_lowered.specs.Sound.{HasWritableParts, IsSmallParameter, IsSmallTree, StaysSound}
+use Rattle.rl_lowered.proofs.SoundListing.{function_writable, place_writable, unnamed_writable}
+use Rattle.rl_lowered.proofs.SoundMoves.{counters_before, known_more, none_known, place_later, sound_next, table_more, terminals_more}
+use Rattle.rl_lowered.proofs.SoundPatterns.{params_sound, params_writable}
+use Rattle.rl_lowered.specs.Promised.{HasRoom, LowersBody, LowersParams, share}
+use Rattle.rl_lowered.specs.Sound.{AreWritableIdentifiers, AreWritablePairs, HasKnownParts, HasSmallCounters, HasSmallTargets}
+use Rattle.rl_lowered.specs.Sound.{AreSmallTrees, HasWritableParts, IsSmallTree, IsSoundPlace, StaysSound}
 use Rattle.rl_machine.specs.Machine.{Graph}
 use Rattle.rl_model.specs.WellFormed.{AreKnown, HasKnownPlaces, instruction_places, param_place, terminal_places}
-use Rattle.rl_names.specs.Functions.{name_in, params_in, parameters_of}
+use Rattle.rl_names.specs.Functions.{name_in}
 use Rattle.rl_names.specs.Names.{Names}
-use Rattle.rl_names.specs.declared.parameters.Parameter.{Parameter}
 use Rattle.rl_order.specs.Numbering.{orders_of}
-use Rattle.rl_promises.specs.Fields.{places_from}
-use Rattle.rl_promises.specs.Locals.{DeclaresIn}
+use Rattle.rl_promises.specs.Locals.{KnowsNames}
 use Rattle.rl_runs.specs.Blocks.{size_of}
 use Rattle.rl_runs.specs.Moves.{return_of}
-use Rattle.rl_syntax.specs.Syntax.{Syntax, nodes, span_of}
+use Rattle.rl_syntax.specs.Syntax.{Pieces, Syntax, span_of}
 use Rattle.rl_text.specs.Notation.{IsWritable}
 use Rattle.rl_text.specs.Number.{largest}
-
--- The parameters.
 
 abbrev IsWritableIdentifier : Identifier → Type 0
 IsWritableIdentifier i = IsWritable (listing.identifier i)
 
-known_writable : (s : State) (type : ℕ) (parameters : List Parameter) → AreDeclaredAt s.semantic parameters
-    → All IsSmallParameter parameters → type + length parameters ≤ largest
-    → AreWritableIdentifiers (known_from s type parameters)
-known_writable s type [] spanned small fits = All-nil IsWritableIdentifier
-known_writable s type (x ∷ parameters) spanned small fits =
-    let here : IsSmallParameter x = All-head IsSmallParameter x parameters small in
-    let is = span_given s x (All-head (λ (p : Parameter). declared_span s.semantic p.symbol.0 ≡ Some p.declaration) x parameters spanned) in
-    All-cons IsWritableIdentifier (identifier_for s type x) (known_from s (type + 1) parameters)
-    (named_writable x.name (new_span s x.symbol.0 (Some x.declaration)) type here.0
-    (subst (λ (o : Option Span). IsWritable (listing.optional listing.span o)) (sym is) (span_writable x.declaration here.1))
-    (omega (arith, fits)))
-    (known_writable s (type + 1) parameters (All-tail (λ (p : Parameter). declared_span s.semantic p.symbol.0 ≡ Some p.declaration) x
-    parameters spanned) (All-tail IsSmallParameter x parameters small) (omega (arith, fits)))
+-- A builder before the parameters.
 
-params_known : (base count : ℕ) (parameters : List Parameter) → base + length parameters ≤ count
-    → AreKnown count (map param_place (places_from base parameters))
-params_known base count [] fits = none_known count
-params_known base count (x ∷ parameters) fits =
-    All-cons (λ (p : Place). p.identifier.0 < count) (record { identifier = record { 0 = base }; span = Some x.declaration })
-    (map param_place (places_from (base + 1) parameters)) (omega (arith, fits))
-    (params_known (base + 1) count parameters (omega (arith, fits)))
-
-params_writable : (base : ℕ) (parameters : List Parameter) → All IsSmallParameter parameters → base + length parameters ≤ largest
-    → All (λ p. IsWritable (listing.param p)) (places_from base parameters)
-params_writable base [] small fits = All-nil (λ (p : Param). IsWritable (listing.param p))
-params_writable base (x ∷ parameters) small fits =
-    let here : IsSmallParameter x = All-head IsSmallParameter x parameters small in
-    All-cons (λ (p : Param). IsWritable (listing.param p))
-    (given.Place (record { identifier = record { 0 = base }; span = Some x.declaration })) (places_from (base + 1) parameters)
-    (place_writable (record { identifier = record { 0 = base }; span = Some x.declaration }) (omega (arith, fits))
-    (span_writable x.declaration here.1))
-    (params_writable (base + 1) parameters (All-tail IsSmallParameter x parameters small) (omega (arith, fits)))
-
--- A builder behind the parameters.
-
-abbrev begun : Environment → FunctionTables → List Parameter → State
-begun env tables parameters = state_with (begun_by env tables) parameters
-
-begun_longer : (env : Environment) (tables : FunctionTables) (parameters : List Parameter)
-    → length (env.identifiers ++ known_from (begun_by env tables) env.next_type parameters) ≡ length env.identifiers + length parameters
-begun_longer env tables parameters =
-    length-append env.identifiers (known_from (begun_by env tables) env.next_type parameters)
-    ∙ ap (λ (n : ℕ). length env.identifiers + n) (known_length (begun_by env tables) env.next_type parameters)
-
-begun_known : (env : Environment) (tables : FunctionTables) (parameters : List Parameter) → HasKnownParts (begun env tables parameters)
-begun_known env tables parameters = record {
-  table = All-nil (λ (i : Instruction). AreKnown (length (begun env tables parameters).env.identifiers) (instruction_places i));
-  terminals = All-nil (λ (b : BlockPair). AreKnown (length (begun env tables parameters).env.identifiers)
-      (terminal_places b.1.terminal));
+begun_known : (env : Environment) (tables : FunctionTables) → HasKnownParts (begun_by env tables)
+begun_known env tables = record {
+  table = All-nil (λ (i : Instruction). AreKnown (length env.identifiers) (instruction_places i));
+  terminals = All-nil (λ (b : BlockPair). AreKnown (length env.identifiers) (terminal_places b.1.terminal));
 }
 
-begun_writable : (env : Environment) (tables : FunctionTables) (parameters : List Parameter)
-    → HasSmallCounters (begun env tables parameters)
-    → HasWritableParts (begun env tables parameters)
-begun_writable env tables parameters fits = record {
+begun_writable : (env : Environment) (tables : FunctionTables) → HasSmallCounters (begun_by env tables)
+    → HasWritableParts (begun_by env tables)
+begun_writable env tables fits = record {
   table = All-nil (λ (i : Instruction). IsWritable (listing.instruction i));
   completed = All-nil (λ (b : BlockPair). IsWritable (listing.block b));
   current = omega (arith, fits.blocks);
@@ -124,46 +71,46 @@ begun_writable env tables parameters fits = record {
   scopes = All-nil HasSmallTargets;
 }
 
-begun_identifiers : (env : Environment) (tables : FunctionTables) (parameters : List Parameter) → AreDeclaredAt tables.semantic parameters
-    → All IsSmallParameter parameters
-    → HasSmallCounters (begun env tables parameters) → AreWritableIdentifiers env.identifiers
-    → AreWritableIdentifiers (begun env tables parameters).env.identifiers
-begun_identifiers env tables parameters spanned small fits w =
-    All-append IsWritableIdentifier env.identifiers (known_from (begun_by env tables) env.next_type parameters) w
-    (known_writable (begun_by env tables) env.next_type parameters spanned small fits.types)
+-- The graph of a function whose parameters and body were lowered and closed off.
+module _ (names : Names) (tables : FunctionTables) (items : Pieces) (rest body : Syntax) (env new : Environment) (given s : State)
+    (params : List Param) (built : Graph)
+    (p : LowersParams names items rest (begun_by env tables) given params) (b : LowersBody names body given s)
+    (room : HasRoom (begun_by env tables) (share (nodes_in items rest body + 2)))
+    (graph : IsBuilt (closed_off s) built new) (knows : KnowsNames names) where
+  abbrev begun : State
+  begun = begun_by env tables
 
-pairs_writable : (base : ℕ) (parameters : List Parameter) → All HasSmallSymbol parameters → base + length parameters ≤ largest
-    → AreWritablePairs (pairs_from base parameters)
-pairs_writable base [] small fits = All-nil (λ (p : Pair). IsWritable (listing.pair p))
-pairs_writable base (x ∷ parameters) small fits =
-    let here : x.symbol.0 ≤ largest = All-head HasSmallSymbol x parameters small in
-    All-cons (λ (p : Pair). IsWritable (listing.pair p)) (pair x.symbol.0 base) (pairs_from (base + 1) parameters)
-    ((lit< tt, refl), (omega (arith, here), (omega (arith, fits), tt)))
-    (pairs_writable (base + 1) parameters (All-tail HasSmallSymbol x parameters small) (omega (arith, fits)))
+  abbrev small_parts : Type 0
+  small_parts = AreSmall items rest body
 
-begun_pairs : (env : Environment) (tables : FunctionTables) (parameters : List Parameter) → All HasSmallSymbol parameters
-    → HasSmallCounters (begun env tables parameters) → AreWritablePairs env.pairs → AreWritablePairs (begun env tables parameters).env.pairs
-begun_pairs env tables parameters small fits w =
-    All-append (λ (p : Pair). IsWritable (listing.pair p)) env.pairs (pairs_from (length env.identifiers) parameters) w
-    (pairs_writable (length env.identifiers) parameters small (omega (arith, begun_longer env tables parameters, fits.identifiers)))
+  abbrev count : ℕ
+  count = nodes_in items rest body
 
--- The graph of a function whose body was lowered and closed off.
-module _ (names : Names) (tables : FunctionTables) (parameters : List Parameter) (body : Syntax) (env new : Environment) (s : State)
-    (built : Graph)
-    (lowered : LowersBody names body (begun env tables parameters) s)
-    (room : HasRoom (begun env tables parameters) (share (nodes body + 2)))
-    (spanned : AreDeclaredAt tables.semantic parameters) (graph : IsBuilt (closed_off s) built new) where
-  whole : StaysSound (IsSmallTree body) (begun env tables parameters) (closed_off s)
-  whole = sound_next (IsSmallTree body) (begun env tables parameters) s (closed_off s) lowered.sound (sound_closed (IsSmallTree body) s)
+  lowered : LowersFunction names (AreSmall items rest body) (nodes_in items rest body) begun s
+  lowered = lowered_both p b
 
-  fresh : IsFresh (begun env tables parameters)
-  fresh = begun_fresh env tables parameters
+  abbrev small_params : Type 0
+  small_params = AreSmallTrees items × IsSmallTree rest
+
+  -- The places of the parameters stay sound.
+  places : All (IsSoundPlace small_params (closed_off s)) (map param_place params)
+  places =
+      All-weaker (IsSoundPlace small_params given) (IsSoundPlace small_params (closed_off s))
+      (λ q sound. place_later small_params (IsSmallTree body) small_params given (closed_off s) q (λ holds. holds)
+      (sound_next (IsSmallTree body) given s (closed_off s) b.sound (sound_closed (IsSmallTree body) s)) sound) (map param_place params)
+      (params_sound small_params knows p.by (λ holds. holds.0) (λ holds. holds.1)).places
+
+  whole : StaysSound small_parts begun (closed_off s)
+  whole = sound_next small_parts begun s (closed_off s) lowered.sound (sound_closed small_parts s)
+
+  fresh : IsFresh begun
+  fresh = begun_fresh env tables
 
   few : (closed_off s).env.next_block < 2 ^ 32
-  few = closed_fits names (begun env tables parameters) body s lowered room
+  few = closed_fits names small_parts count begun s lowered room
 
   size : size_of (closed_off s) < 2 ^ 31
-  size = omega (arith, closed_size names (begun env tables parameters) body s lowered, room)
+  size = omega (arith, closed_size names small_parts count begun s lowered, room)
 
   fits : HasSmallCounters (closed_off s)
   fits =
@@ -171,131 +118,120 @@ module _ (names : Names) (tables : FunctionTables) (parameters : List Parameter)
         blocks = omega (arith, size);
         types = omega (arith, size);
         identifiers = omega (arith, size);
-        instructions =
-            omega (arith, size);
+        instructions = omega (arith, size);
       }
 
-  fits0 : HasSmallCounters (begun env tables parameters)
-  fits0 = counters_before (begun env tables parameters) (closed_off s) whole.counters fits
+  fits0 : HasSmallCounters begun
+  fits0 = counters_before begun (closed_off s) whole.counters fits
 
   known : HasKnownParts (closed_off s)
-  known = whole.known (begun_known env tables parameters)
+  known = whole.known (begun_known env tables)
 
   same : graph_of (closed_off s) ≡ (closed_off s).completed
-  same = closed_table names (begun env tables parameters) body s fresh lowered few
+  same = closed_table names small_parts count begun s fresh lowered few
 
   at_entry : s.entry.0 ≡ env.next_block
   at_entry = ap (λ (id : BlockId). id.0) lowered.blocks.extends.entry
 
   orders : 1 + orders_of (closed_off s).completed < 2 ^ 32
-  orders = orders_fit names (begun env tables parameters) body s fresh lowered few room
+  orders = orders_fit names small_parts count begun s fresh lowered few room
 
-  graph_sound : IsSoundGraph parameters body env new built
+  graph_sound : IsSoundGraph items rest body params env new built
   graph_sound =
-      subst (λ (e : Environment). IsSoundGraph parameters body env e built)
-      (sym (closed_env names (begun env tables parameters) body s fresh lowered few built new graph)) (record {
-        given = omega (arith, begun_longer env tables parameters, whole.counters.identifiers);
+      subst (λ (e : Environment). IsSoundGraph items rest body params env e built)
+      (sym (closed_env names small_parts count begun s fresh lowered few built new graph)) (record {
+        given = All-weaker (IsSoundPlace small_params (closed_off s)) (λ q. q.identifier.0 < length (closed_off s).env.identifiers)
+            (λ q sound. sound.known) (map param_place params) places;
+        listed = λ first last. params_writable small_params (closed_off s) params (first, last) fits places;
         count = fits.identifiers;
         types = fits.types;
         table = built_table_known (closed_off s) built new graph (length (closed_off s).env.identifiers) known.table;
         terminals = built_terminals_known (closed_off s) built new graph (length (closed_off s).env.identifiers) same known.terminals;
         graph =
-            λ small. built_writable (closed_off s) built new graph same (omega (arith, entry_is, at_entry, fits0.blocks))
+            λ first last small. built_writable (closed_off s) built new graph same (omega (arith, entry_is, at_entry, fits0.blocks))
             (omega (arith, orders))
-            (whole.parts small fits (begun_writable env tables parameters fits0));
-        identifiers = λ named small w. whole.identifiers small fits (begun_identifiers env tables parameters spanned named fits0 w);
-        pairs = λ small w. whole.pairs fits (begun_pairs env tables parameters small fits0 w);
+            (whole.parts ((first, last), small) fits (begun_writable env tables fits0));
+        identifiers = λ first last small w. whole.identifiers ((first, last), small) fits w;
+        pairs = λ w. whole.pairs fits w;
       })
     where
       entry_is : (closed_off s).entry.0 ≡ s.entry.0
       entry_is = ap (λ (id : BlockId). id.0) (extends_closed s).entry
 
 -- A sound graph, from the states that the code goes through.
-pub graph_sound_call : (names : Names) (tables : FunctionTables) (parameters : List Parameter) (body : Syntax) (env new : Environment)
-    (before s s1 s2 : State) (p : Place) (built : Graph)
-    → before ≡ begun env tables parameters → AreDeclaredAt tables.semantic parameters → LowersBody names body before s
-    → HasRoom (begun env tables parameters) (share (nodes body + 2)) → s1 ≡ with_undefined s → p ≡ temporary s None
-    → s2 ≡ completed_by s1 (return_of None returns.Void p) placeholder → IsBuilt s2 built new
-    → IsSoundGraph parameters body env new built
-graph_sound_call names tables parameters body env new before s s1 s2 p built is spanned lowers room given placed ended graph =
-    graph_sound names tables parameters body env new s built (subst (λ (o : State). LowersBody names body o s) is lowers) room spanned
-    (subst (λ (t : State). IsBuilt t built new) (closed_is s s1 s2 p given placed ended) graph)
+pub graph_sound_call : (names : Names) (tables : FunctionTables) (items : Pieces) (rest body : Syntax) (env new : Environment)
+    (params : List Param) (built : Graph) (given s s1 s2 : State) (p : Place)
+    → LowersParams names items rest (begun_by env tables) given params → LowersBody names body given s
+    → HasRoom (begun_by env tables) (share (nodes_in items rest body + 2)) → s1 ≡ with_undefined s → p ≡ temporary s None
+    → s2 ≡ completed_by s1 (return_of None returns.Void p) placeholder → IsBuilt s2 built new → KnowsNames names
+    → IsSoundGraph items rest body params env new built
+graph_sound_call names tables items rest body env new params built given s s1 s2 p in_params in_body room is placed ended graph knows =
+    graph_sound names tables items rest body env new given s params built in_params in_body room
+    (subst (λ (t : State). IsBuilt t built new) (closed_is s s1 s2 p is placed ended) graph) knows
 
 -- The function.
-
-pub function_places : (parameters : List Parameter) (body : Syntax) (env mid new : Environment) (built : Graph) (i : Identifier)
-    (f : HirFunction (List BlockPair)) → IsSoundGraph parameters body env mid built → new.identifiers ≡ mid.identifiers ++ i ∷ []
-    → f.body ≡ hir_of built → f.instructions ≡ built.table → f.params ≡ places_from (length env.identifiers) parameters
-    → f.context ≡ [] → f.returns ≡ record { identifier = record { 0 = length mid.identifiers }; span = None }
-    → HasKnownPlaces (length new.identifiers) f
-function_places parameters body env mid new built i f g more body_is table_is params_are none returned = record {
-  table = subst (λ (t : List Instruction). All (λ i. AreKnown (length new.identifiers) (instruction_places i)) t) (sym table_is)
-      (table_more (length mid.identifiers) (length new.identifiers) built.table below g.table);
-  terminals = subst (λ (h : Hir (List BlockPair)). All (λ b. AreKnown (length new.identifiers) (terminal_places b.1.terminal)) h.blocks)
-      (sym body_is) (terminals_more (length mid.identifiers) (length new.identifiers) built.blocks below g.terminals);
-  params = subst (λ (ps : List Param). AreKnown (length new.identifiers) (map param_place ps)) (sym params_are)
-      (params_known (length env.identifiers) (length new.identifiers) parameters (omega (arith, g.given, longer)));
-  context = All-same (λ (p : Place). p.identifier.0 < length new.identifiers) f.context [] none
-      (none_known (length new.identifiers));
-  returns = omega (arith, ap (λ (p : Place). p.identifier.0) returned, longer);
-}
-  where
-    longer : length new.identifiers ≡ length mid.identifiers + 1
-    longer = ap (λ (l : List Identifier). length l) more ∙ length-append mid.identifiers (i ∷ [])
-
-    below : length mid.identifiers ≤ length new.identifiers
-    below = omega (arith, longer)
-
--- The pairs, where there were none before.
-pub function_pairs : (names : Names) (fn body : Syntax) (parameters : List Parameter) (env mid new : Environment) (built : Graph)
-    → IsFunction fn body → DeclaresIn names (params_in fn) → parameters ≡ parameters_of names fn → env.pairs ≡ []
-    → IsSoundGraph parameters body env mid built → new.pairs ≡ mid.pairs → AreWritablePairs new.pairs
-function_pairs names fn body parameters env mid new built w declares are none g same =
-    subst AreWritablePairs (sym same)
-    (g.pairs (subst (λ (l : List Parameter). All HasSmallSymbol l) (sym are) (function_symbols names fn body w declares))
-    (subst AreWritablePairs (sym none) (All-nil (λ (p : Pair). IsWritable (listing.pair p)))))
-
-pub function_listed : (names : Names) (fn tree : Syntax) (parameters : List Parameter) (env mid : Environment) (built : Graph)
-    (f : HirFunction (List BlockPair))
-    → IsFunction fn tree → parameters ≡ parameters_of names fn → IsSoundGraph parameters tree env mid built
-    → f.span ≡ Some (span_of fn) → f.name ≡ name_in fn
-    → (IsSmallTree tree → All IsUtf8 f.directives) → f.body ≡ hir_of built
-    → f.instructions ≡ built.table → f.params ≡ places_from (length env.identifiers) parameters → f.context ≡ []
-    → f.returns ≡ record { identifier = record { 0 = length mid.identifiers }; span = None } → IsSmallTree fn
-    → IsWritable (listing.function f)
-function_listed names fn tree parameters env mid built f w are g span_is name_is directives body_is table_is params_are none returned
-    small =
-    let body : IsSmallTree tree = (w.small small).1 in
-    let graph : IsWritableGraph built = g.graph body in
-    let named : All IsSmallParameter parameters = subst (λ (l : List Parameter). All IsSmallParameter l) (sym are)
-    (function_parameters names fn tree w small) in
-    function_writable f
-    (subst (λ o. IsWritable (listing.optional listing.span o)) (sym span_is) (w.spanned small))
-    (subst (λ o. IsWritable (listing.optional listing.said o)) (sym name_is) (w.named small))
-    (directives body)
-    (subst (λ (ps : List Param). All (λ p. IsWritable (listing.param p)) ps) (sym params_are)
-    (params_writable (length env.identifiers) parameters named (omega (arith, g.given, g.count))))
-    (All-same (λ (p : Place). IsWritable (listing.place p)) f.context [] none
-    (All-nil (λ (p : Place). IsWritable (listing.place p))))
-    (subst (λ (p : Place). IsWritable (listing.place p)) (sym returned)
-    (place_writable (record { identifier = record { 0 = length mid.identifiers }; span = None }) g.count tt))
-    (subst (λ (h : Hir (List BlockPair)). h.entry.0 ≤ largest) (sym body_is) graph.entry)
-    (subst (λ (h : Hir (List BlockPair)). All (λ b. IsWritable (listing.block b)) h.blocks) (sym body_is) graph.blocks)
-    (subst (λ (t : List Instruction). All (λ i. IsWritable (listing.instruction i)) t) (sym table_is) graph.table)
 
 -- An identifier without a name.
 abbrev unnamed : Span → ℕ → Identifier
 unnamed span type = record { name = None; span = Some span; type_id = record { 0 = type } }
 
-pub function_identifiers : (names : Names) (fn body : Syntax) (span : Span) (parameters : List Parameter) (env mid new : Environment)
-    (built : Graph)
-    → IsFunction fn body → span ≡ span_of fn → parameters ≡ parameters_of names fn → IsSoundGraph parameters body env mid built
-    → new.identifiers ≡ mid.identifiers ++ unnamed span mid.next_type ∷ [] → IsSmallTree fn
-    → AreWritableIdentifiers env.identifiers → AreWritableIdentifiers new.identifiers
-function_identifiers names fn body span parameters env mid new built w span_is are g more small known =
-    let named : All IsSmallParameter parameters = subst (λ (l : List Parameter). All IsSmallParameter l) (sym are)
-    (function_parameters names fn body w small) in
-    All-same IsWritableIdentifier new.identifiers _ more
-    (All-push IsWritableIdentifier mid.identifiers _ (g.identifiers named ((w.small small).1) known)
-    (unnamed_writable (Some span) mid.next_type
-    (subst (λ (s : Span). IsWritable (listing.optional listing.span (Some s))) (sym span_is) (w.spanned small)) g.types))
+module _ (fn tree : Syntax) (w : IsFunction fn tree) (env mid new : Environment) (params : List Param) (built : Graph)
+    (g : IsSoundGraph w.items w.rest tree params env mid built) where
+  pub function_places : (i : Identifier) (f : HirFunction (List BlockPair)) → new.identifiers ≡ mid.identifiers ++ i ∷ []
+      → f.body ≡ hir_of built → f.instructions ≡ built.table → f.params ≡ params
+      → f.context ≡ [] → f.returns ≡ record { identifier = record { 0 = length mid.identifiers }; span = None }
+      → HasKnownPlaces (length new.identifiers) f
+  function_places i f more body_is table_is params_are none returned = record {
+    table = subst (λ (t : List Instruction). All (λ i. AreKnown (length new.identifiers) (instruction_places i)) t) (sym table_is)
+        (table_more (length mid.identifiers) (length new.identifiers) built.table below g.table);
+    terminals = subst (λ (h : Hir (List BlockPair)). All (λ b. AreKnown (length new.identifiers) (terminal_places b.1.terminal)) h.blocks)
+        (sym body_is) (terminals_more (length mid.identifiers) (length new.identifiers) built.blocks below g.terminals);
+    params = subst (λ (ps : List Param). AreKnown (length new.identifiers) (map param_place ps)) (sym params_are)
+        (known_more (length mid.identifiers) (length new.identifiers) (map param_place params) below g.given);
+    context = All-same (λ (p : Place). p.identifier.0 < length new.identifiers) f.context [] none
+        (none_known (length new.identifiers));
+    returns = omega (arith, ap (λ (p : Place). p.identifier.0) returned, longer);
+  }
+    where
+      longer : length new.identifiers ≡ length mid.identifiers + 1
+      longer = ap (λ (l : List Identifier). length l) more ∙ length-append mid.identifiers (i ∷ [])
+
+      below : length mid.identifiers ≤ length new.identifiers
+      below = omega (arith, longer)
+
+  -- The pairs, where there were none before.
+  pub function_pairs : env.pairs ≡ [] → new.pairs ≡ mid.pairs → AreWritablePairs new.pairs
+  function_pairs none same =
+      subst AreWritablePairs (sym same)
+      (g.pairs (subst AreWritablePairs (sym none) (All-nil (λ (p : Pair). IsWritable (listing.pair p)))))
+
+  pub function_identifiers : (span : Span) → span ≡ span_of fn → new.identifiers ≡ mid.identifiers ++ unnamed span mid.next_type ∷ []
+      → IsSmallTree fn → AreWritableIdentifiers env.identifiers → AreWritableIdentifiers new.identifiers
+  function_identifiers span span_is more small known =
+      let parts : AreSmall w.items w.rest tree = function_small fn tree w small in
+      All-same IsWritableIdentifier new.identifiers _ more
+      (All-push IsWritableIdentifier mid.identifiers _ (g.identifiers parts.0.0 parts.0.1 parts.1 known)
+      (unnamed_writable (Some span) mid.next_type
+      (subst (λ (s : Span). IsWritable (listing.optional listing.span (Some s))) (sym span_is) (w.spanned small)) g.types))
+
+  pub function_listed : (f : HirFunction (List BlockPair)) → f.span ≡ Some (span_of fn) → f.name ≡ name_in fn
+      → (IsSmallTree tree → All IsUtf8 f.directives) → f.body ≡ hir_of built
+      → f.instructions ≡ built.table → f.params ≡ params → f.context ≡ []
+      → f.returns ≡ record { identifier = record { 0 = length mid.identifiers }; span = None } → IsSmallTree fn
+      → IsWritable (listing.function f)
+  function_listed f span_is name_is directives body_is table_is params_are none returned small =
+      let parts : AreSmall w.items w.rest tree = function_small fn tree w small in
+      let graph : IsWritableGraph built = g.graph parts.0.0 parts.0.1 parts.1 in
+      function_writable f
+      (subst (λ o. IsWritable (listing.optional listing.span o)) (sym span_is) (w.spanned small))
+      (subst (λ o. IsWritable (listing.optional listing.said o)) (sym name_is) (w.named small))
+      (directives parts.1)
+      (subst (λ (ps : List Param). All (λ p. IsWritable (listing.param p)) ps) (sym params_are)
+      (g.listed parts.0.0 parts.0.1))
+      (All-same (λ (p : Place). IsWritable (listing.place p)) f.context [] none
+      (All-nil (λ (p : Place). IsWritable (listing.place p))))
+      (subst (λ (p : Place). IsWritable (listing.place p)) (sym returned)
+      (place_writable (record { identifier = record { 0 = length mid.identifiers }; span = None }) g.count tt))
+      (subst (λ (h : Hir (List BlockPair)). h.entry.0 ≤ largest) (sym body_is) graph.entry)
+      (subst (λ (h : Hir (List BlockPair)). All (λ b. IsWritable (listing.block b)) h.blocks) (sym body_is) graph.blocks)
+      (subst (λ (t : List Instruction). All (λ i. IsWritable (listing.instruction i)) t) (sym table_is) graph.table)

@@ -1,28 +1,21 @@
 -- The stores in which runs begin agree, whatever symbols get identifiers later.
-use Rattle.std.proofs.Common.{◌≡◌, ℕ, suc, ◌+◌, true, List, [], ◌∷◌, map, slice_get, Option, Some, refl, ap, ◌∙◌, arith}
+use Rattle.std.proofs.Common.{ℕ, true, List, [], ◌∷◌, map, Option, refl}
 use Rattle.rl_hir.specs.Pairs.{identifier_of}
 use Rattle.rl_hir.specs.declared.function.Pair.{Pair}
 use Rattle.rl_hir.specs.declared.function.Param.{Param}
 use Rattle.rl_machine.specs.Machine.{set_by}
-use Rattle.rl_machine.specs.Traces.{Store, set, take_values, unset}
+use Rattle.rl_machine.specs.Traces.{Store, take_values, unset}
 use Rattle.rl_machine.specs.declared.trace.Assignment.{Assignment}
 use Rattle.rl_machine.specs.declared.trace.Value.{Value}
-use Rattle.rl_machine.specs.declared.trace.Value.TheVariants as value
-use Rattle.rl_promises.specs.Fields.{places_from}
 use Rattle.rl_model.specs.Functions.{set_all}
 use Rattle.rl_model.specs.Runs.{param_identifier}
-use Rattle.rl_names.specs.declared.parameters.Parameter.{Parameter}
 use Rattle.rl_runs.specs.Continuations.{Agrees}
-use Rattle.rl_runs.proofs.Shared.{agrees_store, agrees_where}
+use Rattle.rl_runs.proofs.Shared.{agrees_where}
 use Rattle.rl_runs.specs.Facts.{AreOne}
 
 -- Each parameter takes the argument at its index, or Undefined.
 abbrev pub take_arguments : List Param → List Value → Store → Store
 take_arguments params arguments store = take_values (map param_identifier params) arguments store
-
--- The parameters take the arguments, by symbol.
-abbrev pub take : List Parameter → List Value → Store → Store
-take parameters arguments store = take_values (map (λ (p : Parameter). p.symbol.0) parameters) arguments store
 
 -- The store in which a run begins, before the parameters take their arguments.
 abbrev pub start_values : List Pair → List Assignment → Store
@@ -38,18 +31,3 @@ module _ (ident : ℕ → Option ℕ) (one : AreOne ident) where
   -- The stores before parameters take their arguments.
   pub agrees_start : (start : List Assignment) → Agrees ident (set_all start unset) (set_by ident (λ symbol. true) start unset)
   agrees_start start = agrees_all start unset unset (record { at = λ symbol identifier is. refl })
-
-  -- Parameters take their arguments, on both sides.
-  pub agrees_taken : (base : ℕ) (parameters : List Parameter) (arguments : List Value) (source store : Store)
-      → ((place : ℕ) (p : Parameter) → slice_get parameters place ≡ Some p → ident p.symbol.0 ≡ Some (base + place))
-      → Agrees ident source store
-      → Agrees ident (take parameters arguments source) (take_arguments (places_from base parameters) arguments store)
-  agrees_taken base [] arguments source store given a = a
-  agrees_taken base (p ∷ parameters) [] source store given a =
-      agrees_taken (base + 1) parameters [] (set source p.symbol.0 value.Undefined) (set store base value.Undefined)
-      (λ place x is. given (suc place) x is ∙ ap (λ (m : ℕ). Some m) (omega arith))
-      (agrees_store ident one source store p.symbol.0 base value.Undefined (given 0 p refl ∙ ap (λ (m : ℕ). Some m) (omega arith)) a)
-  agrees_taken base (p ∷ parameters) (v ∷ arguments) source store given a =
-      agrees_taken (base + 1) parameters arguments (set source p.symbol.0 v) (set store base v)
-      (λ place x is. given (suc place) x is ∙ ap (λ (m : ℕ). Some m) (omega arith))
-      (agrees_store ident one source store p.symbol.0 base v (given 0 p refl ∙ ap (λ (m : ℕ). Some m) (omega arith)) a)

@@ -31,7 +31,7 @@ use Rattle.rl_runs.specs.Moves.{return_of, returned_from}
 use Rattle.rl_syntax.specs.declared.numbered.At.{At}
 use Rattle.rl_syntax.specs.declared.word.Word.TheVariants as word
 use Rattle.rl_syntax.specs.Syntax.{Syntax, Node, Listed, Absent, Pieces, End, Then, span_of}
-use Rattle.rl_lower_expressions.proofs.Derivations.{room_after}
+use Rattle.rl_lower_parts.proofs.Derivations.{room_after}
 
 -- A derivation, told of a tree and a state that are equal to its own.
 pub statement_derived : {names : Names} (tree e : Syntax) (s t new : State) → e ≡ tree → new ≡ t → LoweredStatement names e s t

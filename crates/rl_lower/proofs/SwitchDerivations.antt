@@ -1,13 +1,10 @@
 -- Derivations of `switch` statements, and the room and the names in the holes of their frames.
-use Rattle.std.proofs.Common.{◌≡◌, ℕ, ◌+◌, ◌<◌, ◌≤◌, ◌++◌, Bool, true, false, ◌&&◌, if◌then◌else◌, List, [], ◌∷◌, map, length}
+use Rattle.std.proofs.Common.{◌≡◌, ℕ, ◌+◌, ◌<◌, ◌≤◌, ◌++◌, Bool, true, false, ◌&&◌, List, [], ◌∷◌, map, length}
 use Rattle.std.proofs.Common.{length-append}
-use Rattle.std.proofs.Common.{Option, Some, None, Result, Ok, Err, OnOk, refl, ap, sym, ◌∙◌, subst, arith}
+use Rattle.std.proofs.Common.{Option, Some, None, refl, ap, sym, ◌∙◌, subst, arith}
 use Rattle.std.proofs.lemmas.Bool.{and_parts}
-use Rattle.rl_base.specs.Diagnostics.{diagnostic_at}
-use Rattle.rl_base.specs.declared.diagnostic.Diagnostic.{Diagnostic}
-use Rattle.rl_base.specs.declared.row.Row.TheVariants as row
 use Rattle.rl_base.specs.declared.span.Span.{Span}
-use Rattle.rl_builder.specs.Builder.{State, recorded}
+use Rattle.rl_builder.specs.Builder.{State}
 use Rattle.rl_builder.specs.declared.jumps.JumpScope.{JumpScope}
 use Rattle.rl_builder.specs.declared.jumps.JumpScope.TheVariants as scopes
 use Rattle.rl_frames.proofs.SwitchComposes.{switch_at_more, switch_ended_at}
@@ -19,10 +16,11 @@ use Rattle.rl_grammar.specs.declared.kind.Kind.{Kind}
 use Rattle.rl_grammar.specs.declared.kind.Kind.TheVariants as sort
 use Rattle.rl_hir.specs.declared.instruction.Place.{Place}
 use Rattle.rl_hir.specs.declared.terminal.Case.{Case}
-use Rattle.rl_lower.specs.Cases.{FramesBehind, FramesCase, FramesCases, joined, moving}
+use Rattle.rl_lower.specs.Cases.{FramesBehind, FramesCase, FramesCases, joined}
+use Rattle.rl_lower_parts.proofs.MovedDerivations.{moving_by, moving_size}
+use Rattle.rl_lower_parts.specs.Moving.{moving}
 use Rattle.rl_lowered.proofs.Arounds.{arounds_in, cases_arounds}
 use Rattle.rl_lowered.proofs.Blocks.{statements_blocks}
-use Rattle.rl_lowered.proofs.Names.{names_recorded}
 use Rattle.rl_lowered.proofs.Told.{told_case_test, told_cases}
 use Rattle.rl_lowered.specs.Arounds.{arounds}
 use Rattle.rl_lowered.specs.Lowered as lowered
@@ -33,7 +31,7 @@ use Rattle.rl_model.specs.Actions.{Label}
 use Rattle.rl_names.specs.Names.{Names}
 use Rattle.rl_promises.specs.Jumps.{Around, InSwitch}
 use Rattle.rl_promises.specs.Lowerable.{AreLowerableCases, AreLowerableIn, IsLowerable, IsLowerableCase}
-use Rattle.rl_promises.specs.Moved.{may_move, type_name}
+use Rattle.rl_promises.specs.Moved.{may_move}
 use Rattle.rl_runs.specs.Blocks.{size_of}
 use Rattle.rl_runs.specs.Moves.{block_id}
 use Rattle.rl_syntax.specs.declared.numbered.At.{At}
@@ -46,9 +44,6 @@ use Rattle.rl_lower.proofs.LoopDerivations.{moved_room}
 use Rattle.rl_lower.proofs.StatementDerivations.{statement_derived}
 
 -- Tests of cases.
-
-abbrev moving_by : Bool → Word → Span → State → State
-moving_by b w at s = if b then s else recorded s (diagnostic_at row.F29 (type_name w) at)
 
 moved_test : {names : Names} (at : At) (w : Word) (fields : Pieces) (s t : State) (p : Place) (b : Bool)
     → may_move names (Node at w fields) ≡ b → Lowered names (Node at w fields) (moving_by b w at.span s) t p
@@ -75,63 +70,9 @@ pub case_test_shown : {names : Names} {e shown : Syntax} {s t : State} {p : Opti
     → LowersCaseTest names shown s t p
 case_test_shown {names} {e} {shown} {s} {t} {p} is l = subst (λ (x : Syntax). LowersCaseTest names x s t p) is l
 
-named_by : {names : Names} (b : Bool) (w : Word) (at : Span) (s : State) → IsNamed names s → IsNamed names (moving_by b w at s)
-named_by true w at s named = named
-named_by false w at s named = (names_recorded s (diagnostic_at row.F29 (type_name w) at)).named named
-
-moving_keeps : {names : Names} (e : Syntax) (s : State) → IsNamed names s → IsNamed names (moving names s e)
-moving_keeps {names} (Node at w fields) s named = named_by (may_move names (Node at w fields)) w at.span s named
-moving_keeps (Listed parts) s named = named
-moving_keeps (Said text) s named = named
-moving_keeps (Count number) s named = named
-moving_keeps (Flag flag) s named = named
-moving_keeps Absent s named = named
-
-pub moving_named : {names : Names} (e : Syntax) (s b : State) → b ≡ moving names s e → IsNamed names s → IsNamed names b
-moving_named {names} e s b is named = subst (IsNamed names) (sym is) (moving_keeps e s named)
-
-size_by : (b : Bool) (w : Word) (at : Span) (s : State) → size_of (moving_by b w at s) ≤ size_of s + 0
-size_by true w at s = omega arith
-size_by false w at s = omega arith
-
-moving_size : (names : Names) (e : Syntax) (s : State) → size_of (moving names s e) ≤ size_of s + 0
-moving_size names (Node at w fields) s = size_by (may_move names (Node at w fields)) w at.span s
-moving_size names (Listed parts) s = omega arith
-moving_size names (Said text) s = omega arith
-moving_size names (Count number) s = omega arith
-moving_size names (Flag flag) s = omega arith
-moving_size names Absent s = omega arith
-
 pub moving_room : (names : Names) (e : Syntax) (s b : State) (more : ℕ) → b ≡ moving names s e → HasRoom s more → HasRoom b more
 moving_room names e s b more is room =
     moved_room s (moving names s e) b 0 more more is (moving_size names e s) (omega arith) room
-
--- The state in front of a test, from whether it may move.
-
-pub moving_kept : (names : Names) (e : Syntax) (s : State) → may_move names e ≡ true → s ≡ moving names s e
-moving_kept names (Node at w fields) s is = ap (λ (b : Bool). moving_by b w at.span s) (sym is)
-moving_kept names (Listed parts) s is = refl
-moving_kept names (Said text) s is = refl
-moving_kept names (Count number) s is = refl
-moving_kept names (Flag flag) s is = refl
-moving_kept names Absent s is = refl
-
-pub moving_noted : (names : Names) {at : At} {w : Word} {fields : Pieces} {e : Syntax} (s new : State) → Node at w fields ≡ e
-    → may_move names e ≡ false → new ≡ recorded s (diagnostic_at row.F29 (type_name w) at.span) → new ≡ moving names s e
-moving_noted names {at} {w} {fields} {e} s new is stays noted =
-    subst (λ (t : Syntax). new ≡ moving names s t) is
-    (noted ∙ ap (λ (b : Bool). moving_by b w at.span s) (sym (ap (λ (t : Syntax). may_move names t) is ∙ stays)))
-
-pub moving_noted_ok : (names : Names) {at : At} {w : Word} {fields : Pieces} {e : Syntax} {text : List ℕ} {E : Type 0} (s new : State)
-    (d : Diagnostic) (r : Result (Unit {0}) E) → Node at w fields ≡ e → may_move names e ≡ false
-    → d ≡ diagnostic_at row.F29 text at.span → text ≡ type_name w → OnOk r (new ≡ recorded s d) → OnOk r (new ≡ moving names s e)
-moving_noted_ok names {at} {w} s new d (Ok x) is stays said named noted =
-    moving_noted names s new is stays
-    (noted ∙ ap (λ (q : Diagnostic). recorded s q) (said ∙ ap (λ (t : List ℕ). diagnostic_at row.F29 t at.span) named))
-moving_noted_ok names s new d (Err e) is stays said named noted = tt
-
-pub unmoved : (names : Names) (s : State) {tree shown : Syntax} → tree ≡ shown → s ≡ moving names s shown → s ≡ moving names s tree
-unmoved names s is kept = subst (λ (t : Syntax). s ≡ moving names s t) (sym is) kept
 
 -- The last case, and those before it.
 

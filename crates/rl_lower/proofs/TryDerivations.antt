@@ -1,21 +1,15 @@
 -- Derivations of `throw` and of `try` statements, and the room and the names in the holes of their frames.
-use Rattle.std.proofs.Common.{◌≡◌, ℕ, ◌+◌, ◌<◌, ◌≤◌, ◌++◌, List, [], ◌∷◌, length, length-append, codes}
-use Rattle.std.proofs.Common.{Some, None, Result, Ok, Err, OnOk, refl, ap, sym, ◌∙◌, subst, arith}
-use Rattle.std.specs.Fmt.{decimal}
+use Rattle.std.proofs.Common.{◌≡◌, ℕ, ◌+◌, ◌<◌, ◌≤◌, ◌++◌, List, [], ◌∷◌, length, length-append}
+use Rattle.std.proofs.Common.{true, true≢false, Some, None, Result, Ok, Err, OnOk, refl, ap, sym, ◌∙◌, subst, arith}
 use Rattle.rl_base.specs.declared.ids.BlockId.{BlockId}
 use Rattle.rl_base.specs.declared.row.Row.TheVariants as row
 use Rattle.rl_base.specs.declared.span.Span.{Span}
 use Rattle.rl_base.specs.declared.stop.Stop.{Stop}
-use Rattle.rl_builder.specs.Builder.{State, recorded, reserved, with_temporary}
+use Rattle.rl_builder.specs.Builder.{State, recorded, reserved}
 use Rattle.rl_builder.specs.Temporaries.{with_value}
 use Rattle.rl_frames.specs.Frames.{TryParts, try_after, try_at, try_caught, try_ended}
 use Rattle.rl_frames.specs.Parts.{try_bound, try_started}
-use Rattle.rl_used_names.proofs.NameLaws.{changed_at-last}
-use Rattle.rl_hir.specs.Identifiers.{changed_at, with_name}
-use Rattle.rl_hir.specs.declared.environment.Environment.{Environment}
 use Rattle.rl_hir.specs.declared.function.BlockKind.TheVariants as blocks
-use Rattle.rl_hir.specs.declared.function.Identifier.{Identifier}
-use Rattle.rl_hir.specs.declared.function.IdentifierName.TheVariants as identifiers
 use Rattle.rl_hir.specs.declared.instruction.InstructionKind.TheVariants as kinds
 use Rattle.rl_hir.specs.declared.instruction.InstructionValue.{InstructionValue}
 use Rattle.rl_hir.specs.declared.instruction.InstructionValue.TheVariants as values
@@ -28,21 +22,22 @@ use Rattle.rl_lowered.proofs.Catches.{size_promoted, size_throwing}
 use Rattle.rl_lowered.proofs.Names.{names_catch_begun, names_recorded, names_value}
 use Rattle.rl_lowered.specs.Arounds.{arounds}
 use Rattle.rl_lowered.specs.Forms.{IsAnnotation}
+use Rattle.rl_lowered.specs.Items.{caught, promoted}
 use Rattle.rl_lowered.specs.Lowered as lowered
-use Rattle.rl_lowered.specs.Lowered.{LoweredStatement, catch_at, catch_begun, catch_bound, caught, promoted, throwing}
+use Rattle.rl_lowered.specs.Lowered.{LoweredStatement, catch_at, catch_begun, catch_bound, throwing}
 use Rattle.rl_lowered.specs.Named.{IsFound, IsNamed, found}
 use Rattle.rl_lowered.specs.Promised.{HasRoom, LowersExpression, LowersStatement, share}
 use Rattle.rl_names.specs.Names.{Names}
 use Rattle.rl_promises.specs.Jumps.{Around}
 use Rattle.rl_promises.specs.Lowerable.{IsLowerableIn}
+use Rattle.rl_promises.specs.Patterns.{stop_of_caught, takes_apart}
 use Rattle.rl_promises.specs.Rows.{refusal}
 use Rattle.rl_runs.specs.Blocks.{size_of}
 use Rattle.rl_runs.specs.Moves.{block_id, threw_from}
 use Rattle.rl_syntax.specs.declared.numbered.At.{At}
 use Rattle.rl_syntax.specs.declared.word.Word.TheVariants as word
 use Rattle.rl_syntax.specs.Syntax.{Syntax, Node, Listed, Said, Count, Flag, Absent, Pieces, End, Then, nodes, span_of}
-use Rattle.rl_lower_expressions.proofs.Derivations.{room_after}
-use Rattle.rl_lower_expressions.proofs.MemberDerivations.{grown}
+use Rattle.rl_lower_parts.proofs.Derivations.{grown, room_after}
 use Rattle.rl_lower.proofs.LoopDerivations.{moved_room}
 use Rattle.rl_lower.proofs.StatementDerivations.{statement_derived}
 
@@ -58,30 +53,6 @@ throw_ok names at {tree} {e} {s} {t} {p} b new (Ok x) is l noted moved =
     statement_derived tree (Node at word.Throw (Then e End)) s _ new is
     (moved ∙ ap (λ (o : State). threw_from o at.span p blocks.Block) noted) (lowered.Throw at e s t p l.by)
 throw_ok names at b new (Err e) is l noted moved = tt
-
--- The place that takes the caught value.
-pub promoted_is : (s made new : State) (e0 e1 : Environment) (identifier : ℕ) (name : List ℕ) (span : Span)
-    → made ≡ with_temporary s (Some span) → identifier ≡ length s.env.identifiers → name ≡ codes "#t" ++ decimal identifier
-    → e0 ≡ made.env → e1 ≡ record e0 { identifiers = changed_at (with_name (identifiers.Promoted name)) identifier e0.identifiers }
-    → new ≡ record made { env = e1 } → new ≡ promoted s span
-promoted_is s made new e0 e1 identifier name span is_made is_next named lent changed is_new =
-    is_new
-    ∙ ap (λ (e : Environment). record made { env = e })
-    (changed ∙ ap (λ (e : Environment). record e {
-      identifiers =
-          changed_at (with_name (identifiers.Promoted name)) identifier e.identifiers;
-    }) lent)
-    ∙ ap (λ (o : State). after o name identifier) is_made
-    ∙ ap (λ (n : List ℕ). after (with_temporary s (Some span)) n identifier) named
-    ∙ ap (λ (i : ℕ). after (with_temporary s (Some span)) (codes "#t" ++ decimal i) i) is_next
-    ∙ ap (λ (l : List Identifier). record s { env = record s.env { next_type = s.env.next_type + 1; identifiers = l } })
-    (changed_at-last (with_name (identifiers.Promoted (codes "#t" ++ decimal (length s.env.identifiers)))) s.env.identifiers plain)
-  where
-    after : State → List ℕ → ℕ → State
-    after o n i = record o { env = record o.env { identifiers = changed_at (with_name (identifiers.Promoted n)) i o.env.identifiers } }
-
-    plain : Identifier
-    plain = record { name = None; span = Some span; type_id = record { 0 = s.env.next_type } }
 
 -- The store of the caught value.
 pub stored_told : {names : Names} {bind : At} {value : Place} {identifier : ℕ} {old mid : State} (new : State)
@@ -340,6 +311,15 @@ caught_room at {there} {param} {body} {handler} block finalizer s b is noted roo
     let counted : nodes (Node there word.Catch (Then param (Then body End))) ≡ nodes handler = ap nodes is in
     finalizer_room finalizer s b at.span (share (nodes (caught_try at there block param body)))
     (share (nodes (Node at word.Try (Then block (Then handler (Then finalizer End)))))) noted (omega (arith, counted)) room
+
+-- The parameter of a `catch` takes nothing apart.
+pub never_apart : {param shown : Syntax} → param ≡ shown → takes_apart param ≡ true → stop_of_caught shown ≡ None → ⊥
+never_apart {param} is apart none = apart_stops param apart (ap stop_of_caught is ∙ none)
+  where
+    apart_stops : (p : Syntax) → takes_apart p ≡ true → stop_of_caught p ≡ None → ⊥
+    apart_stops (Node at word.Arraypat parts) apart none = absurd (cc)
+    apart_stops (Node at word.Objectpat parts) apart none = absurd (cc)
+    apart_stops _ apart none = absurd (true≢false (sym apart))
 
 pub clause_may : (names : Names) (at there : At) (block body : Syntax) {param shown : Syntax} (around : List Around) → param ≡ shown
     → IsLowerableIn names around None (caught_try at there block shown body)

@@ -1,21 +1,12 @@
 -- Cases of a `switch`, and their tests.
-use Rattle.std.specs.Prelude.{◌≡◌, if◌then◌else◌, List, None}
-use Rattle.rl_base.specs.Diagnostics.{diagnostic_at}
-use Rattle.rl_base.specs.declared.row.Row.TheVariants as row
+use Rattle.std.specs.Prelude.{◌≡◌, List, None}
 use Rattle.rl_base.specs.declared.span.Span.{Span}
-use Rattle.rl_builder.specs.Builder.{State, recorded}
+use Rattle.rl_builder.specs.Builder.{State}
 use Rattle.rl_frames.specs.SwitchParts.{SwitchParts, switch_at}
 use Rattle.rl_hir.specs.declared.terminal.Case.{Case}
 use Rattle.rl_lowered.specs.Lowered.{LoweredCases}
 use Rattle.rl_names.specs.Names.{Names}
-use Rattle.rl_promises.specs.Moved.{may_move, type_name}
-use Rattle.rl_syntax.specs.Syntax.{Syntax, Node, Pieces, End, Then}
-
--- The state in front of a test, of which one is refused that may not be evaluated in another place (row F29).
-abbrev pub moving : Names → State → (test : Syntax) → State
-moving names s (Node at w fields) =
-    if may_move names (Node at w fields) then s else recorded s (diagnostic_at row.F29 (type_name w) at.span)
-moving names s test = s
+use Rattle.rl_syntax.specs.Syntax.{Syntax, Pieces, End, Then}
 
 -- The rows of pieces, one behind the other.
 abbrev pub joined : (first second : Pieces) → Pieces

@@ -1,9 +1,10 @@
 -- Declarators of variables that were lowered.
-use Rattle.std.specs.Prelude.{◌≡◌, ℕ, ◌+◌, ◌≤◌, Some}
+use Rattle.std.specs.Prelude.{◌≡◌, ℕ, ◌+◌, ◌≤◌, Bool, true, false, Some}
 use Rattle.rl_base.specs.declared.ids.SymbolId.{SymbolId}
 use Rattle.rl_base.specs.declared.span.Span.{Span}
 use Rattle.rl_builder.specs.Builder.{State}
 use Rattle.rl_hir.specs.declared.instruction.InstructionKind.{InstructionKind}
+use Rattle.rl_lowered.specs.Items.{met, redeclared}
 use Rattle.rl_lowered.specs.Lowered.{LoweredDeclarators}
 use Rattle.rl_lowered.specs.Named.{IsFound, IsNamed, found}
 use Rattle.rl_lowered.specs.Promised.{share}
@@ -17,6 +18,20 @@ pub record IsDeclared (names : Names) (bind : At) (old new : State) (identifier 
   pub symbol : SymbolId
   pub declared : names.declared bind.id.0 ≡ Some symbol
   pub moved : new ≡ found names old symbol bind.span
+  pub bound : IsFound names old symbol bind.span identifier
+  pub named : IsNamed names new
+  pub size : size_of new ≤ size_of old + 2
+
+-- The state behind a name whose identifier gets its span, in the head of a loop, where `again` is true.
+abbrev pub respanned : (again : Bool) → State → (identifier : ℕ) → Span → State
+respanned true s identifier span = redeclared s identifier span
+respanned false s identifier span = s
+
+-- As `IsDeclared`, where the identifier gets the span of the name if `again` is true.
+pub record IsMet (names : Names) (again : Bool) (bind : At) (old new : State) (identifier : ℕ) : Type 0 where
+  pub symbol : SymbolId
+  pub declared : names.declared bind.id.0 ≡ Some symbol
+  pub moved : new ≡ met again names old symbol identifier bind.span
   pub bound : IsFound names old symbol bind.span identifier
   pub named : IsNamed names new
   pub size : size_of new ≤ size_of old + 2

@@ -1,5 +1,5 @@
 -- The end of a body, and the graph of a function.
-use Rattle.std.specs.Prelude.{◌≡◌, ◌<◌, ◌^◌, None, List, length}
+use Rattle.std.specs.Prelude.{◌≡◌, ◌<◌, ◌^◌, None, List}
 use Rattle.rl_builder.specs.Build.{IsBuilt}
 use Rattle.rl_builder.specs.Builder.{State, completed_by, placeholder}
 use Rattle.rl_builder.specs.Temporaries.{temporary, with_value}
@@ -12,15 +12,12 @@ use Rattle.rl_hir.specs.declared.instruction.InstructionValue.TheVariants as val
 use Rattle.rl_hir.specs.declared.instruction.PrimitiveValue.TheVariants as primitives
 use Rattle.rl_hir.specs.declared.terminal.ReturnVariant.TheVariants as returns
 use Rattle.rl_lower.specs.Begun.{FunctionTables, begun_by}
-use Rattle.rl_lower.specs.Parameters.{with_parameters}
 use Rattle.rl_lowered.specs.Named.{TellDeclarations}
-use Rattle.rl_lowered.specs.Promised.{LowersBody}
+use Rattle.rl_lowered.specs.Promised.{LowersBody, LowersParams}
 use Rattle.rl_machine.specs.Machine.{Graph}
 use Rattle.rl_names.specs.Names.{Names}
-use Rattle.rl_names.specs.declared.parameters.Parameter.{Parameter}
-use Rattle.rl_promises.specs.Fields.{places_from}
 use Rattle.rl_runs.specs.Moves.{return_of}
-use Rattle.rl_syntax.specs.Syntax.{Syntax}
+use Rattle.rl_syntax.specs.Syntax.{Syntax, Pieces}
 
 -- Undefined in a fresh temporary.
 abbrev pub with_undefined : State → State
@@ -38,14 +35,15 @@ hir_of g = record { entry = g.entry; blocks = g.blocks }
 abbrev pub graph_of : Built (List BlockPair) → Graph
 graph_of built = record { blocks = built.hir.blocks; table = built.instructions; entry = built.hir.entry }
 
--- `built` is the graph of a builder that gave the parameters their identifiers, lowered the body, and was closed off. `old`
--- and `new` are the environment before and after it; blocks have numbers below 2^32.
-pub record IsGraphOf (names : Names) (tables : FunctionTables) (parameters : List Parameter) (body : Syntax)
+-- `built` is the graph of a builder that lowered the parameters of a `params` node and the body, and was closed off. `old` and `new` are
+-- the environment before and after it; blocks have numbers below 2^32.
+pub record IsGraphOf (names : Names) (tables : FunctionTables) (parameters : Pieces) (rest body : Syntax)
     (old new : Environment) (params : List Param) (built : Graph) : Type 0 where
+  pub given : State
   pub state : State
   pub declared : TellDeclarations names tables.semantic
-  pub places : params ≡ places_from (length old.identifiers) parameters
-  pub lowers : LowersBody names body (with_parameters (begun_by old tables) parameters) state
+  pub lowers_params : LowersParams names parameters rest (begun_by old tables) given params
+  pub lowers : LowersBody names body given state
   pub graph : IsBuilt (closed_off state) built new
   pub after : new ≡ (closed_off state).env
   pub few : new.next_block < 2 ^ 32

@@ -2,7 +2,7 @@ pub mod Begun
 pub mod Cases
 pub mod Declarators
 pub mod Endings
-pub mod Parameters
+pub mod Patterns
 pub mod Rooms
 pub mod Scenes
 pub mod Sound

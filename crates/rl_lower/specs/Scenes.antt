@@ -4,6 +4,7 @@ use Rattle.rl_hir.specs.Pairs.{identifier_of}
 use Rattle.rl_hir.specs.declared.function.Pair.{Pair}
 use Rattle.rl_machine.specs.Traces.{World}
 use Rattle.rl_model.specs.Scene.{Scene}
+use Rattle.rl_lowered.specs.Params.{TakesEarly}
 use Rattle.rl_names.specs.Names.{Names}
 use Rattle.rl_runs.specs.Continuations.{SharesVariables}
 
@@ -11,4 +12,5 @@ use Rattle.rl_runs.specs.Continuations.{SharesVariables}
 pub record IsSceneOf (names : Names) (pairs : List Pair) (scene : Scene) (world : World) : Type 0 where
   pub named : scene.names ≡ names
   pub ported : scene.ported ≡ true
+  pub early : TakesEarly scene
   pub shares : SharesVariables (identifier_of pairs) scene.world world

@@ -1,12 +1,12 @@
 -- The graph of a function whose places are known, and which the notation has where the function is small.
-use Rattle.std.specs.Prelude.{◌+◌, ◌≤◌, List, All, length}
+use Rattle.std.specs.Prelude.{◌≤◌, List, All, length, map}
 use Rattle.rl_hir.specs.Listing as listing
 use Rattle.rl_hir.specs.declared.environment.Environment.{Environment}
-use Rattle.rl_lowered.specs.Sound.{AreWritableIdentifiers, AreWritablePairs, HasSmallSymbol, IsSmallParameter, IsSmallTree}
+use Rattle.rl_hir.specs.declared.function.Param.{Param}
+use Rattle.rl_lowered.specs.Sound.{AreSmallTrees, AreWritableIdentifiers, AreWritablePairs, IsSmallTree}
 use Rattle.rl_machine.specs.Machine.{Graph}
-use Rattle.rl_model.specs.WellFormed.{AreKnown, instruction_places, terminal_places}
-use Rattle.rl_names.specs.declared.parameters.Parameter.{Parameter}
-use Rattle.rl_syntax.specs.Syntax.{Syntax}
+use Rattle.rl_model.specs.WellFormed.{AreKnown, instruction_places, param_place, terminal_places}
+use Rattle.rl_syntax.specs.Syntax.{Pieces, Syntax}
 use Rattle.rl_text.specs.Notation.{IsWritable}
 use Rattle.rl_text.specs.Number.{largest}
 
@@ -16,16 +16,18 @@ pub record IsWritableGraph (built : Graph) : Type 0 where
   pub blocks : All (λ b. IsWritable (listing.block b)) built.blocks
   pub table : All (λ i. IsWritable (listing.instruction i)) built.table
 
--- The graph that was built from `body` over the environment `old` names identifiers of `new`, among which each of
--- `parameters` has one of its own. Where the body is small, the notation has the graph, and where the parameters are too, the
+-- The graph that was built from the parameters of a `params` node and a body over the environment `old` names identifiers of `new`, among
+-- which the places of the parameters have theirs. Where these trees are small, the notation has the parameters, the graph and the
 -- identifiers; and it has the pairs.
-pub record IsSoundGraph (parameters : List Parameter) (body : Syntax) (old new : Environment) (built : Graph) : Type 0 where
-  pub given : length old.identifiers + length parameters ≤ length new.identifiers
+pub record IsSoundGraph (parameters : Pieces) (rest body : Syntax) (params : List Param) (old new : Environment) (built : Graph)
+    : Type 0 where
+  pub given : AreKnown (length new.identifiers) (map param_place params)
+  pub listed : AreSmallTrees parameters → IsSmallTree rest → All (λ p. IsWritable (listing.param p)) params
   pub count : length new.identifiers ≤ largest
   pub types : new.next_type ≤ largest
   pub table : All (λ i. AreKnown (length new.identifiers) (instruction_places i)) built.table
   pub terminals : All (λ b. AreKnown (length new.identifiers) (terminal_places b.1.terminal)) built.blocks
-  pub graph : IsSmallTree body → IsWritableGraph built
-  pub identifiers : All IsSmallParameter parameters → IsSmallTree body → AreWritableIdentifiers old.identifiers
+  pub graph : AreSmallTrees parameters → IsSmallTree rest → IsSmallTree body → IsWritableGraph built
+  pub identifiers : AreSmallTrees parameters → IsSmallTree rest → IsSmallTree body → AreWritableIdentifiers old.identifiers
       → AreWritableIdentifiers new.identifiers
-  pub pairs : All HasSmallSymbol parameters → AreWritablePairs old.pairs → AreWritablePairs new.pairs
+  pub pairs : AreWritablePairs old.pairs → AreWritablePairs new.pairs

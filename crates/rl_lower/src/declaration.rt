@@ -1,17 +1,19 @@
 //! Lowering of declarations of variables.
 
-ghost use Rattle.std.specs.Prelude.{◌≡◌, ◌+◌, map, OnOk, IfOk, IfErr};
+ghost use Rattle.std.specs.Prelude.{◌≡◌, ◌+◌, ◌<◌, length, true, map, OnOk, IfOk, IfErr};
 ghost use Rattle.rl_syntax.specs.Syntax.{Node, Absent, Then, End, nodes, nodes_of, pieces_of, syntax};
 ghost use Rattle.rl_ast.specs.BindingViews.{seen_binding_identifier};
 ghost use Rattle.rl_syntax.specs.declared.numbered.At.{At};
 ghost use Rattle.rl_builder.specs.Builder.{state_of};
-ghost use Rattle.rl_lower.specs.Declarators.{IsDeclared, LowersDeclarator};
+ghost use Rattle.rl_lower.specs.Declarators.{IsDeclared, IsMet, LowersDeclarator, respanned};
 ghost use Rattle.rl_lowered.specs.Lowered.{LoweredDeclarators, declaring, kind_of};
 ghost use Rattle.rl_lowered.specs.Named.{IsNamed};
 ghost use Rattle.rl_lowered.specs.Promised.{HasRoom, LowersInit, LowersStatement, share};
 ghost use Rattle.rl_promises.specs.Lowerable.{AreLowerable, DeclaresFree, IsLowerable};
+ghost use Rattle.rl_promises.specs.Patterns.{takes_apart};
 ghost use Rattle.rl_names.specs.Seen.{seen};
 
+use crate::pattern::lower_pattern;
 use rl_ast::binding::{
     BindingIdentifier, BindingPattern, binding_identifier_view, binding_pattern_view,
 };
@@ -24,13 +26,14 @@ use rl_base::stop::Stop;
 use rl_base::variable_kind::VariableKind;
 use rl_builder::unit_tables::ReadsUnit;
 use rl_grammar::sort::{
-    ExpressionTree, VariableDeclarationTree, VariableDeclaratorTree, VariableDeclaratorTrees,
+    BindingPatternTree, ExpressionTree, VariableDeclarationTree, VariableDeclaratorTree,
+    VariableDeclaratorTrees,
 };
 use rl_hir::instruction::{InstructionKind, InstructionValue, Place};
 use rl_lower_expressions::expression::lower_expression;
-use rl_lower_expressions::graph_builder::GraphBuilder;
-use rl_lower_expressions::name::resolve_variable;
-use rl_lower_expressions::temporary::{lower_value_to_temporary, refuse};
+use rl_lower_parts::graph_builder::GraphBuilder;
+use rl_lower_parts::name::resolve_variable;
+use rl_lower_parts::temporary::{lower_undefined, lower_value_to_temporary, refuse};
 use rl_names::names::FunctionNames;
 use rl_syntax::word::Word;
 use std::alloc::Global;
@@ -86,6 +89,41 @@ pub(crate) fn resolve_declared<U: ReadsUnit>(
     resolve_variable(builder, names, symbol, bind.at.span)
 }
 
+/// Gives an identifier the span of its name in the head of a loop, where `again` is true.
+fn respan<U: ReadsUnit>(
+    builder: &mut GraphBuilder<'_, U>,
+    again: bool,
+    identifier: IdentifierId,
+    span: Span,
+)
+    requires within { identifier.0 < length (state_of U.tables builder.old).env.identifiers }
+    ensures same_reference { builder.new.env.ghost_name ≡ builder.old.env.ghost_name }
+    ensures state { state_of U.tables builder.new ≡ respanned again (state_of U.tables builder.old) identifier.0 span }
+{
+    if again {
+        builder.set_identifier_declaration_span(identifier, span);
+    }
+}
+
+/// The identifier of a variable that is declared. In the head of a loop, where `again` is true, it gets the span of its name there.
+pub(crate) fn meet_declared<U: ReadsUnit>(
+    builder: &mut GraphBuilder<'_, U>,
+    names: &FunctionNames<'_>,
+    again: bool,
+    bind: &BindingIdentifier<'_>,
+) -> Result<IdentifierId, Stop>
+    requires names { IsNamed (seen names.now) (state_of U.tables builder.old) }
+    requires free { DeclaresFree (seen names.now) ((seen names.now).declared bind.now.at.id.0) }
+    requires room { HasRoom (state_of U.tables builder.old) 2 }
+    ensures same_reference { builder.new.env.ghost_name ≡ builder.old.env.ghost_name }
+    ensures met { IfOk result (λ identifier. IsMet (seen names.now) again bind.now.at (state_of U.tables builder.old) (state_of U.tables builder.new) identifier.0) }
+    ensures memory { IfErr result (λ e. e ≡ Stop.OutOfMemory) }
+{
+    let identifier = resolve_declared(builder, names, bind)?;
+    respan(builder, again, identifier, bind.at.span);
+    Ok(identifier)
+}
+
 /// Lowers a declarator without an initializer: a declaration.
 fn lower_declared<U: ReadsUnit>(
     builder: &mut GraphBuilder<'_, U>,
@@ -139,7 +177,52 @@ fn lower_initialized<U: ReadsUnit>(
     Ok(())
 }
 
-/// Lowers a declarator of a variable, in a declaration with the span.
+/// Lowers a declarator of a pattern that takes the value of an initializer.
+fn lower_taken<U: ReadsUnit>(
+    alloc: Global,
+    builder: &mut GraphBuilder<'_, U>,
+    names: &FunctionNames<'_>,
+    span: Span,
+    kind: InstructionKind,
+    pattern: BindingPatternTree<'_>,
+    init: ExpressionTree<'_>,
+) -> Result<(), Stop>
+    requires names { IsNamed (seen names.now) (state_of U.tables builder.old) }
+    requires apart { takes_apart (syntax pattern.tree.now) ≡ true }
+    requires may { IsLowerable (seen names.now) (syntax pattern.tree.now) × IsLowerable (seen names.now) (syntax init.tree.now) }
+    requires room { HasRoom (state_of U.tables builder.old) (share (nodes (syntax pattern.tree.now) + nodes (syntax init.tree.now) + 1)) }
+    ensures same_reference { builder.new.env.ghost_name ≡ builder.old.env.ghost_name }
+    ensures lowered { OnOk result ((there : At) → LowersDeclarator (seen names.now) span kind (Node there Word.Declarator (Then (syntax pattern.entry.tree.now) (Then (syntax init.entry.tree.now) End))) (state_of U.tables builder.old) (state_of U.tables builder.new)) }
+    ensures memory { IfErr result (λ e. e ≡ Stop.OutOfMemory) }
+{
+    let value = lower_expression(alloc, builder, names, init)?;
+    lower_pattern(alloc, builder, names, false, kind, span, pattern, value)?;
+    Ok(())
+}
+
+/// Lowers a declarator of a pattern without an initializer, which takes undefined.
+fn lower_untaken<U: ReadsUnit>(
+    alloc: Global,
+    builder: &mut GraphBuilder<'_, U>,
+    names: &FunctionNames<'_>,
+    span: Span,
+    kind: InstructionKind,
+    pattern: BindingPatternTree<'_>,
+) -> Result<(), Stop>
+    requires names { IsNamed (seen names.now) (state_of U.tables builder.old) }
+    requires apart { takes_apart (syntax pattern.tree.now) ≡ true }
+    requires may { IsLowerable (seen names.now) (syntax pattern.tree.now) }
+    requires room { HasRoom (state_of U.tables builder.old) (share (nodes (syntax pattern.tree.now) + 1)) }
+    ensures same_reference { builder.new.env.ghost_name ≡ builder.old.env.ghost_name }
+    ensures lowered { OnOk result ((there : At) → LowersDeclarator (seen names.now) span kind (Node there Word.Declarator (Then (syntax pattern.entry.tree.now) (Then Absent End))) (state_of U.tables builder.old) (state_of U.tables builder.new)) }
+    ensures memory { IfErr result (λ e. e ≡ Stop.OutOfMemory) }
+{
+    let value = lower_undefined(builder, Some(span))?;
+    lower_pattern(alloc, builder, names, false, kind, span, pattern, value)?;
+    Ok(())
+}
+
+/// Lowers a declarator of variables, in a declaration with the span.
 fn lower_declarator<U: ReadsUnit>(
     alloc: Global,
     builder: &mut GraphBuilder<'_, U>,
@@ -156,7 +239,8 @@ fn lower_declarator<U: ReadsUnit>(
     ensures memory { IfErr result (λ e. e ≡ Stop.OutOfMemory) }
 {
     let declarator = variable_declarator_view(declarator);
-    match binding_pattern_view(declarator.pattern) {
+    let pattern = declarator.pattern;
+    match binding_pattern_view(pattern) {
         BindingPattern::Identifier(bind) => {
             let bind = binding_identifier_view(bind);
             match declarator.init {
@@ -164,8 +248,14 @@ fn lower_declarator<U: ReadsUnit>(
                 None => lower_declared(builder, names, kind, &bind),
             }
         }
-        BindingPattern::Array { .. } => unreachable!(),
-        BindingPattern::Object { .. } => unreachable!(),
+        BindingPattern::Array { .. } => match declarator.init {
+            Some(init) => lower_taken(alloc, builder, names, span, kind, pattern, init),
+            None => lower_untaken(alloc, builder, names, span, kind, pattern),
+        },
+        BindingPattern::Object { .. } => match declarator.init {
+            Some(init) => lower_taken(alloc, builder, names, span, kind, pattern, init),
+            None => lower_untaken(alloc, builder, names, span, kind, pattern),
+        },
     }
 }
 

@@ -1,11 +1,10 @@
 //! Lowering of functions: parameters, bodies and ends.
 
-ghost use Rattle.std.specs.Prelude.{◌≡◌, ◌≢◌, ◌+◌, ◌*◌, ◌≤◌, ◌||◌, false, option_map, map, OnOk, IfOk, IfErr, None, Some, [], All, codes, length};
+ghost use Rattle.std.specs.Prelude.{◌≡◌, ◌≢◌, ◌+◌, ◌*◌, ◌≤◌, ◌||◌, false, option_map, map, OnOk, IfOk, IfErr, None, Some, [], All, length};
 ghost use Rattle.std.specs.Option.{option_copied, option_or};
-ghost use Rattle.std.specs.Str.{IsUtf8, bytes_eq};
+ghost use Rattle.std.specs.Str.{IsUtf8};
 ghost use Rattle.rl_ast.specs.FunctionNodes.{seen_function, seen_function_node};
 ghost use Rattle.rl_ast.specs.FunctionViews.{seen_arrow, seen_arrow_body};
-ghost use Rattle.rl_base.specs.Reserved.{is_reserved};
 ghost use Rattle.rl_base.specs.declared.diagnostic.Diagnostic.{Diagnostic as Said};
 ghost use Rattle.rl_base.specs.declared.row.Row.TheVariants as row;
 ghost use Rattle.rl_builder.specs.Builder.{state_of};
@@ -16,7 +15,6 @@ ghost use Rattle.rl_hir.specs.Listing.{function as listed_function};
 ghost use Rattle.rl_hir.specs.Numbered.{IsNumbered};
 ghost use Rattle.rl_lower.specs.Begun.{FunctionTables, begun_by, function_tables};
 ghost use Rattle.rl_lower.specs.Endings.{IsGraphOf, graph_of};
-ghost use Rattle.rl_lower.specs.Parameters.{with_parameters};
 ghost use Rattle.rl_lower.specs.Sound.{IsSoundGraph};
 ghost use Rattle.rl_lowered.specs.Lowered.{LoweredBody};
 ghost use Rattle.rl_lowered.specs.Named.{IsNamed};
@@ -25,31 +23,33 @@ ghost use Rattle.rl_lowered.specs.Sound.{AreWritableIdentifiers, AreWritablePair
 ghost use Rattle.rl_machine.specs.Closed.{IsClosed};
 ghost use Rattle.rl_promises.specs.Chains.{HasChains};
 ghost use Rattle.rl_promises.specs.Covered.{IsCoveredFunction};
-ghost use Rattle.rl_promises.specs.Fields.{AreGiven, ArePairs, directives_in, places_from, texts_in};
+ghost use Rattle.rl_promises.specs.Fields.{ArePairs, HasParams, directives_in, texts_in};
 ghost use Rattle.rl_machine.specs.Traces.{World};
 ghost use Rattle.rl_promises.specs.Headline.{NeverStuck, SameRuns};
 ghost use Rattle.rl_promises.specs.HeldNodes.{HoldsNodes};
 ghost use Rattle.rl_model.specs.Scene.{Scene};
 ghost use Rattle.rl_lower.specs.Scenes.{IsSceneOf};
-ghost use Rattle.rl_promises.specs.Lowerable.{IsLowerableBody};
-ghost use Rattle.rl_promises.specs.Rebound.{respanned};
+ghost use Rattle.rl_promises.specs.Lowerable.{IsLowerable, IsLowerableBody};
+ghost use Rattle.rl_promises.specs.Rebound.{span_behind_body};
 ghost use Rattle.rl_promises.specs.Rows.{Records, refusals_of};
 ghost use Rattle.rl_promises.specs.SeenStops.{seen_stop};
 ghost use Rattle.rl_promises.specs.Spans.{AreSpannedIdentifiers, IsSpanOf, IsSpanned, KnowsSpans};
-ghost use Rattle.rl_promises.specs.Stops.{first_named, first_stop, has_using, stop_in_body, stop_of};
+ghost use Rattle.rl_promises.specs.Stops.{first_stop, has_using, stop_in_body, stop_of};
 ghost use Rattle.rl_promises.specs.Size.{function_size};
 ghost use Rattle.rl_model.specs.WellFormed.{HasKnownPlaces, IsLinked};
-ghost use Rattle.rl_names.specs.Functions.{async_in, body_in, generator_in, name_in, parameters_of, params_in, said_by};
-ghost use Rattle.rl_names.specs.Locals.{AreApart};
-ghost use Rattle.rl_promises.specs.Locals.{AreLocals, HasLocals, KnowsNames};
+ghost use Rattle.rl_names.specs.Functions.{async_in, body_in, generator_in, name_in, params_in, said_by};
+ghost use Rattle.rl_promises.specs.Locals.{AreToldApart, HasLocals, KnowsNames};
 ghost use Rattle.rl_names.specs.Names.{at_of};
 ghost use Rattle.rl_names.specs.Seen.{seen};
-ghost use Rattle.rl_syntax.specs.Syntax.{Absent, nodes, pieces_of, span_of, syntax};
+ghost use Rattle.rl_syntax.specs.Syntax.{Syntax, Node, Listed, Absent, Pieces, Then, End, nodes, pieces_of, span_of, syntax};
 ghost use Rattle.rl_text.specs.Notation.{IsWritable};
 
+use crate::params::lower_parameters;
 use crate::statement::lower_statements;
 use rl_ast::binding::binding_identifier_view;
-use rl_ast::function::{Arrow, ArrowBody, arrow_body_view, function_body_view};
+use rl_ast::function::{
+    Arrow, ArrowBody, arrow_body_view, formal_parameters_view, function_body_view,
+};
 use rl_ast::function_node::{Function, FunctionNode};
 use rl_base::diagnostic::Diagnostic;
 use rl_base::error::OutOfMemory;
@@ -63,23 +63,23 @@ use rl_builder::graph::Built;
 use rl_builder::unit_tables::{ReadsUnit, UnitTables};
 use rl_context::context::find_context_identifiers;
 use rl_context::index::IdentifierLocIndex;
-use rl_grammar::sort::{BindingIdentifierTree, TextTrees};
+use rl_grammar::sort::{BindingIdentifierTree, FormalParametersTree, TextTrees};
 use rl_hir::blocks::GraphBlocks;
 use rl_hir::environment::Environment;
 use rl_hir::function::{BlockKind, HirFunction, Param};
-use rl_hir::instruction::Place;
 use rl_hir::terminal::{ReturnVariant, Terminal, TerminalKind};
 use rl_lower_expressions::expression::lower_expression;
-use rl_lower_expressions::graph_builder::GraphBuilder;
-use rl_lower_expressions::temporary::lower_undefined;
+use rl_lower_parts::graph_builder::GraphBuilder;
+use rl_lower_parts::temporary::lower_undefined;
 use rl_names::names::FunctionNames;
-use rl_names::parameters::{Parameter, parameters};
 use rl_promises::body_stops::stop_in_body;
 use rl_promises::found_stop::FoundStop;
+use rl_promises::patterns::this_in;
 use rl_promises::skips::has_using;
 use rl_promises::stops::first_stop;
 use rl_syntax::numbered::{At, Numbered};
 use rl_syntax::parts::text_of;
+use rl_syntax::word::Word;
 use std::alloc::Global;
 use std::collections::BTreeSet;
 
@@ -166,34 +166,6 @@ fn own_name(
     }
 }
 
-/// Gives each parameter an identifier, in order. No name is reserved, so that nothing stops.
-fn lower_parameters<U: ReadsUnit>(
-    alloc: Global,
-    builder: &mut GraphBuilder<'_, U>,
-    parameters: &[Parameter],
-) -> Result<List<Param>, Stop>
-    requires nothing { (state_of U.tables builder.old).bindings ≡ [] }
-    requires apart { AreApart parameters.now }
-    requires free { All (λ p. is_reserved p.name ≡ false) parameters.now }
-    requires room { HasRoom (state_of U.tables builder.old) (2 * length parameters.now) }
-    ensures same_reference { builder.new.env.ghost_name ≡ builder.old.env.ghost_name }
-    ensures state { OnOk result (state_of U.tables builder.new ≡ with_parameters (state_of U.tables builder.old) parameters.now) }
-    ensures places { IfOk result (λ params. params ≡ places_from (length builder.old.env.now.identifiers) parameters.now) }
-    ensures memory { IfErr result (λ e. e ≡ Stop.OutOfMemory) }
-{
-    let mut params = List::with_capacity(alloc, parameters.len())?;
-    for parameter in parameters {
-        let span = parameter.declaration;
-        let name = parameter.name.as_str();
-        let identifier = builder.resolve_binding_with_span(name, parameter.symbol, span)?;
-        params.push(Param::Place(Place {
-            identifier,
-            span: Some(span),
-        }))?;
-    }
-    Ok(params)
-}
-
 /// Lowers a body up to its end. An expression's value is returned; the block behind that return is numbered before the
 /// expression is lowered.
 fn lower_body<U: ReadsUnit>(
@@ -240,19 +212,18 @@ fn lower_graph<U: ReadsUnit>(
     names: &FunctionNames<'_>,
     unit: U,
     scope: ScopeId,
-    parameters: &[Parameter],
+    parameters: FormalParametersTree<'_>,
     body: ArrowBody<'_>,
     env: &mut Environment,
 ) -> Result<Graph, Stop>
     requires tables { (U.tables unit).semantic ≡ names.now.resolver.now.semantic.now }
     requires knows { KnowsNames (seen names.now) }
-    requires locals { AreLocals (seen names.now) parameters.now }
-    requires apart { AreApart parameters.now }
-    requires free { All (λ p. is_reserved p.name ≡ false) parameters.now }
+    requires told { AreToldApart (seen names.now) (syntax parameters.tree.now) }
+    requires may_take { IsLowerable (seen names.now) (syntax parameters.tree.now) }
     requires may { IsLowerableBody (seen names.now) (seen_arrow_body body) }
-    requires room { HasRoom (begun_by env.old (function_tables names.now scope (U.tables unit).sites)) (share (nodes (seen_arrow_body body) + 2) + 2 * length parameters.now) }
-    ensures graph { IfOk result (λ graph. IsGraphOf (seen names.now) (function_tables names.now scope (U.tables unit).sites) parameters.now (seen_arrow_body body.entry) env.old env.new graph.params (graph_of graph.built)) }
-    ensures sound { IfOk result (λ graph. IsSoundGraph parameters.now (seen_arrow_body body.entry) env.old env.new (graph_of graph.built)) }
+    requires room { HasRoom (begun_by env.old (function_tables names.now scope (U.tables unit).sites)) (share (nodes (syntax parameters.tree.now) + nodes (seen_arrow_body body) + 1)) }
+    ensures graph { IfOk result (λ graph. (at : At) (items : Pieces) (rest : Syntax) → syntax parameters.entry.tree.now ≡ Node at Word.Params (Then (Listed items) (Then rest End)) → IsGraphOf (seen names.now) (function_tables names.now scope (U.tables unit).sites) items rest (seen_arrow_body body.entry) env.old env.new graph.params (graph_of graph.built)) }
+    ensures sound { IfOk result (λ graph. (at : At) (items : Pieces) (rest : Syntax) → syntax parameters.entry.tree.now ≡ Node at Word.Params (Then (Listed items) (Then rest End)) → IsSoundGraph items rest (seen_arrow_body body.entry) graph.params env.old env.new (graph_of graph.built)) }
     ensures memory { IfErr result (λ e. e ≡ Stop.OutOfMemory) }
 {
     let mut builder = GraphBuilder::<U>::over(
@@ -267,7 +238,8 @@ fn lower_graph<U: ReadsUnit>(
         None,
         None,
     )?;
-    let params = lower_parameters(alloc, &mut builder, parameters)?;
+    let parameters = formal_parameters_view(parameters);
+    let params = lower_parameters(alloc, &mut builder, names, parameters)?;
     lower_body(alloc, &mut builder, names, body)?;
     let value = lower_undefined(&mut builder, None)?;
     let end = Terminal {
@@ -308,18 +280,6 @@ fn directives_of(alloc: Global, body: ArrowBody<'_>) -> Result<List<Text>, OutOf
     }
 }
 
-/// The first parameter whose name is `this`.
-fn find_this(parameters: &[Parameter]) -> Option<&Parameter>
-    ensures { option_copied result ≡ first_named (λ name. bytes_eq name (codes "this")) parameters.now }
-{
-    for parameter in parameters {
-        if parameter.name.as_str() == "this" {
-            return Some(parameter);
-        }
-    }
-    None
-}
-
 /// The tree of a body.
 fn body_tree<'b>(body: ArrowBody<'b>) -> &'b Numbered
     ensures { syntax result.now ≡ seen_arrow_body body.entry }
@@ -330,13 +290,13 @@ fn body_tree<'b>(body: ArrowBody<'b>) -> &'b Numbered
     }
 }
 
-/// The tree of a function's parameters.
-fn params_tree<'b>(function: FunctionNode<'b>) -> &'b Numbered
-    ensures { syntax result.now ≡ params_in (seen_function_node function.entry) }
+/// The parameters of a function.
+fn params_of<'b>(function: FunctionNode<'b>) -> FormalParametersTree<'b>
+    ensures { syntax result.tree.now ≡ params_in (seen_function_node function.entry) }
 {
     match function {
-        FunctionNode::Function(function) => function.params.tree,
-        FunctionNode::Arrow(arrow) => arrow.params.tree,
+        FunctionNode::Function(function) => function.params,
+        FunctionNode::Arrow(arrow) => arrow.params,
     }
 }
 
@@ -380,7 +340,7 @@ fn look_for_targets(
     ensures stopped { IfErr result (λ e. (d : Said) → e ≡ Stop.Diagnostic d → option_or (stop_among (sites_in (seen_function_node function.entry))) (option_or (first_stop (seen names.now) (params_in (seen_function_node function.entry))) (stop_in_body (seen names.now) (body_in (seen_function_node function.entry)))) ≡ Some d) }
 {
     find_context_identifiers(alloc, &function, names.resolver, index)?;
-    look_inside(alloc, names, params_tree(function), body)
+    look_inside(alloc, names, params_of(function).tree, body)
 }
 
 /// Looks for the stops of a function with its index. On `Stop::OutOfMemory` an allocation failed.
@@ -389,21 +349,15 @@ fn look_for_stops(
     names: &FunctionNames<'_>,
     function: FunctionNode<'_>,
     index: &IdentifierLocIndex,
-    parameters: &[Parameter],
     body: &Numbered,
 ) -> Result<(), Stop>
     requires index { index.now ≡ sites_in (seen_function_node function) }
-    requires parameters { parameters.now ≡ parameters_of (seen names.now) (seen_function_node function) }
     requires body { syntax body.now ≡ body_in (seen_function_node function) }
     ensures goes_on { OnOk result (stop_of (seen names.now) (seen_function_node function.entry) ≡ None) }
     ensures stopped { IfErr result (λ e. (d : Said) → e ≡ Stop.Diagnostic d → stop_of (seen names.now) (seen_function_node function.entry) ≡ Some d) }
 {
-    match find_this(parameters) {
-        Some(parameter) => {
-            let word = parameter.name.as_str();
-            let diagnostic = Diagnostic::at(alloc, Row::S2, word, parameter.declaration)?;
-            Err(Stop::Diagnostic(diagnostic))
-        }
+    match this_in(params_of(function).tree) {
+        Some(span) => Err(Stop::Diagnostic(Diagnostic::at(alloc, Row::S2, "this", span)?)),
         None => look_for_targets(alloc, names, function, index, body),
     }
 }
@@ -432,7 +386,7 @@ pub fn lower(
     requires chained { HasChains (seen_function_node function) }
     requires body { body_in (seen_function_node function) ≢ Absent }
     requires fresh { env.old.pairs ≡ [] }
-    requires spans { KnowsSpans names.now.resolver.now.semantic.now.bindings.symbols (seen_function_node function) }
+    requires spans { KnowsSpans (seen names.now) names.now.resolver.now.semantic.now.bindings.symbols (seen_function_node function) }
     requires room { (tables : FunctionTables) → HasRoom (begun_by env.old tables) (share (nodes (seen_function_node function))) }
     ensures goes_on { OnOk result (stop_of (seen names.now) (seen_function_node function.entry) ≡ None) }
     ensures stopped { IfErr result (λ e. (d : Said) → e ≡ Stop.Diagnostic d → stop_of (seen names.now) (seen_function_node function.entry) ≡ Some d) }
@@ -441,7 +395,7 @@ pub fn lower(
     ensures closed { IfOk result (λ f. IsClosed f.body) }
     ensures same_runs { IfOk result (λ f. refusals_of (seen names.now) (seen_function_node function.entry) ≡ [] → has_using (body_in (seen_function_node function.entry)) ≡ false → (scene : Scene) (world : World) → IsSceneOf (seen names.now) env.new.pairs scene world → SameRuns scene (seen_function_node function.entry) world f env.new.pairs) }
     ensures never_stuck { IfOk result (λ f. refusals_of (seen names.now) (seen_function_node function.entry) ≡ [] → has_using (body_in (seen_function_node function.entry)) ≡ false → (scene : Scene) (world : World) → IsSceneOf (seen names.now) env.new.pairs scene world → NeverStuck world f env.new.pairs) }
-    ensures held { IfOk result (λ f. refusals_of (seen names.now) (seen_function_node function.entry) ≡ [] → HoldsNodes (seen_function_node function.entry) f) }
+    ensures held { IfOk result (λ f. refusals_of (seen names.now) (seen_function_node function.entry) ≡ [] → HoldsNodes (seen names.now) (seen_function_node function.entry) f) }
     ensures numbered { IfOk result (λ f. IsNumbered f.instructions f.body.blocks) }
     ensures linked { IfOk result (λ f. IsLinked f) }
     ensures functions { OnOk result (env.new.functions ≡ env.old.functions) }
@@ -454,14 +408,13 @@ pub fn lower(
     ensures is_async { IfOk result (λ f. f.is_async ≡ async_in (seen_function_node function.entry)) }
     ensures generator { IfOk result (λ f. f.generator ≡ generator_in (seen_function_node function.entry)) }
     ensures directives { IfOk result (λ f. f.directives ≡ directives_in (body_in (seen_function_node function.entry))) }
-    ensures params { IfOk result (λ f. f.params ≡ places_from (length env.old.identifiers) (parameters_of (seen names.now) (seen_function_node function.entry))) }
     ensures context { IfOk result (λ f. f.context ≡ []) }
     ensures returns { IfOk result (λ f. (f.returns.span ≡ None) × (f.returns.identifier.0 + 1 ≡ length env.new.identifiers)) }
 
-    // The identifiers of pairs are named for their symbols, and each parameter is paired with that of its place, which has the span
-    // of its last declaration. The notation has the pairs.
+    // The identifiers of pairs are named for their symbols. Each parameter stands at its place; the identifier of one that is a name has
+    // the span of its last declaration. The notation has the pairs.
     ensures pairs { OnOk result (ArePairs (seen names.now) env.new.identifiers env.new.pairs) }
-    ensures given { OnOk result (AreGiven env.new.identifiers env.new.pairs (length env.old.identifiers) env.old.next_type (respanned (seen names.now) (seen_function_node function.entry))) }
+    ensures given { IfOk result (λ f. HasParams (seen names.now) (λ symbol before. span_behind_body (seen names.now) symbol (body_in (seen_function_node function.entry)) before) env.new.identifiers env.new.pairs (params_in (seen_function_node function.entry)) f.params) }
     ensures paired { OnOk result (AreWritablePairs env.new.pairs) }
 
     // Places name identifiers that were made, and the notation has the listing of what a small function is lowered to.
@@ -472,11 +425,10 @@ pub fn lower(
     // Each span is that of a node of the function, or absent.
     ensures spanned { IfOk result (λ f. AreSpannedIdentifiers (IsSpanOf (seen_function_node function.entry)) env.old.identifiers → IsSpanned (seen_function_node function.entry) f env.new.identifiers) }
 {
-    let parameters = parameters(alloc, names, function)?;
     let parts = parts_of(function);
     let body = body_tree(parts.body);
     let index = IdentifierLocIndex::of(alloc, &function)?;
-    look_for_stops(alloc, names, function, &index, parameters.as_slice(), body)?;
+    look_for_stops(alloc, names, function, &index, body)?;
     let span = Some(parts.at.span);
     let unit = UnitTables {
         resolver: names.resolver,
@@ -487,7 +439,7 @@ pub fn lower(
         names,
         unit,
         parts.at.scope,
-        parameters.as_slice(),
+        params_of(function),
         parts.body,
         env,
     )?;

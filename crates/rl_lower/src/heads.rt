@@ -6,7 +6,8 @@ ghost use Rattle.rl_ast.specs.BindingViews.{seen_binding_identifier, seen_identi
 ghost use Rattle.rl_builder.specs.Builder.{recorded, state_of};
 ghost use Rattle.rl_lowered.specs.Named.{IsNamed};
 ghost use Rattle.rl_lowered.specs.Promised.{HasRoom, LowersHead, share};
-ghost use Rattle.rl_promises.specs.Lowerable.{DeclaresFree, IsFree, IsLowerable, IsLowerableHead, Where};
+ghost use Rattle.rl_promises.specs.Lowerable.{DeclaresFree, IsFree, IsLowerable, IsLowerableHead, IsLowerableTo, Where};
+ghost use Rattle.rl_promises.specs.Patterns.{is_pattern};
 ghost use Rattle.rl_promises.specs.Conditions.{is_plain_head};
 ghost use Rattle.rl_promises.specs.Outs.{is_lost_head};
 ghost use Rattle.rl_promises.specs.Locals.{IsVariable};
@@ -17,6 +18,7 @@ ghost use Rattle.rl_names.specs.declared.names.Meaning.TheVariants.{Local};
 ghost use Rattle.rl_base.specs.Reserved.{is_reserved};
 
 use crate::declaration::resolve_declared;
+use crate::pattern::lower_pattern;
 use rl_ast::binding::{
     BindingIdentifier, BindingPattern, IdentifierReference, binding_identifier_view,
     binding_pattern_view, identifier_reference_view,
@@ -33,10 +35,11 @@ use rl_builder::unit_tables::ReadsUnit;
 use rl_grammar::sort::{AssignmentTargetTree, ForHeadTree, VariableDeclarationTree};
 use rl_hir::instruction::{InstructionKind, InstructionValue, Place};
 use rl_lower_expressions::access::{lower_computed, lower_static};
-use rl_lower_expressions::graph_builder::GraphBuilder;
 use rl_lower_expressions::member::store_member;
-use rl_lower_expressions::name::resolve_variable;
-use rl_lower_expressions::temporary::{lower_value_to_temporary, refuse};
+use rl_lower_expressions::target::lower_target;
+use rl_lower_parts::graph_builder::GraphBuilder;
+use rl_lower_parts::name::resolve_variable;
+use rl_lower_parts::temporary::{lower_value_to_temporary, refuse};
 use rl_names::names::{FunctionNames, Meaning};
 use rl_syntax::numbered::At;
 use rl_syntax::word::Word;
@@ -70,8 +73,9 @@ fn lower_declared_head<U: ReadsUnit>(
     lower_value_to_temporary(builder, value, Some(at.span))
 }
 
-/// Lowers a head that declares a variable, by any keyword.
+/// Lowers a head that declares variables, by any keyword.
 fn lower_variables_head<U: ReadsUnit>(
+    alloc: Global,
     builder: &mut GraphBuilder<'_, U>,
     names: &FunctionNames<'_>,
     declaration: VariableDeclarationTree<'_>,
@@ -88,14 +92,20 @@ fn lower_variables_head<U: ReadsUnit>(
     let declaration = variable_declaration_view(declaration);
     match declaration.declarators.split_first() {
         Some((declarator, _)) => {
-            let declarator = variable_declarator_view(declarator);
-            match binding_pattern_view(declarator.pattern) {
+            let pattern = variable_declarator_view(declarator).pattern;
+            let kind = InstructionKind::Let;
+            let span = declaration.at.span;
+            match binding_pattern_view(pattern) {
                 BindingPattern::Identifier(bind) => {
                     let bind = binding_identifier_view(bind);
                     lower_declared_head(builder, names, declaration.at, &bind, value)
                 }
-                BindingPattern::Array { .. } => unreachable!(),
-                BindingPattern::Object { .. } => unreachable!(),
+                BindingPattern::Array { .. } => {
+                    lower_pattern(alloc, builder, names, true, kind, span, pattern, value)
+                }
+                BindingPattern::Object { .. } => {
+                    lower_pattern(alloc, builder, names, true, kind, span, pattern, value)
+                }
             }
         }
         None => unreachable!(),
@@ -189,7 +199,8 @@ fn lower_target_head<U: ReadsUnit>(
     value: Place,
 ) -> Result<Place, Stop>
     requires names { IsNamed (seen names.now) (state_of U.tables builder.old) }
-    requires may { Where (not (is_lost_head (syntax target.tree.now))) (IsLowerable (seen names.now) (syntax target.tree.now)) }
+    requires may { Where (not (is_pattern (syntax target.tree.now))) (Where (not (is_lost_head (syntax target.tree.now))) (IsLowerable (seen names.now) (syntax target.tree.now))) }
+    requires may_take { Where (is_pattern (syntax target.tree.now)) (IsLowerableTo (seen names.now) (syntax target.tree.now)) }
     requires room { HasRoom (state_of U.tables builder.old) (share (nodes (syntax target.tree.now))) }
     ensures same_reference { builder.new.env.ghost_name ≡ builder.old.env.ghost_name }
     ensures lowered { IfOk result (λ place. LowersHead (seen names.now) value (syntax target.entry.tree.now) (state_of U.tables builder.old) (state_of U.tables builder.new) place) }
@@ -207,7 +218,7 @@ fn lower_target_head<U: ReadsUnit>(
             property,
         } => {
             let member = lower_static(alloc, builder, names, object, property)?;
-            store_member(alloc, builder, at, member, value)
+            store_member(alloc, builder, at.span, member, value)
         }
         AssignmentTarget::Index {
             at,
@@ -216,7 +227,7 @@ fn lower_target_head<U: ReadsUnit>(
             property,
         } => {
             let member = lower_computed(alloc, builder, names, object, property)?;
-            store_member(alloc, builder, at, member, value)
+            store_member(alloc, builder, at.span, member, value)
         }
         AssignmentTarget::PrivateMember { at, .. } => {
             lose_head(alloc, builder, Row::F11, at, value)
@@ -225,8 +236,12 @@ fn lower_target_head<U: ReadsUnit>(
         AssignmentTarget::Satisfies { at, .. } => lose_head(alloc, builder, Row::F45, at, value),
         AssignmentTarget::Assert { at, .. } => lose_head(alloc, builder, Row::F45, at, value),
         AssignmentTarget::NonNull { at, .. } => lose_head(alloc, builder, Row::F45, at, value),
-        AssignmentTarget::Array { .. } => unreachable!(),
-        AssignmentTarget::Object { .. } => unreachable!(),
+        AssignmentTarget::Array { at, .. } => {
+            lower_target(alloc, builder, names, at.span, target, value)
+        }
+        AssignmentTarget::Object { at, .. } => {
+            lower_target(alloc, builder, names, at.span, target, value)
+        }
     }
 }
 
@@ -248,7 +263,7 @@ pub(crate) fn lower_loop_head<U: ReadsUnit>(
 {
     match for_head_view(head) {
         ForHead::Variables(declaration) => {
-            lower_variables_head(builder, names, declaration, value)
+            lower_variables_head(alloc, builder, names, declaration, value)
         }
         ForHead::Target(target) => lower_target_head(alloc, builder, names, target, value),
     }

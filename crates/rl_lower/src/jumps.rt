@@ -18,7 +18,7 @@ use rl_base::text::Text;
 use rl_builder::unit_tables::ReadsUnit;
 use rl_hir::function::BlockKind;
 use rl_hir::terminal::{GotoVariant, Terminal, TerminalKind};
-use rl_lower_expressions::graph_builder::GraphBuilder;
+use rl_lower_parts::graph_builder::GraphBuilder;
 use rl_syntax::numbered::At;
 
 /// The text of a label, if there is one.

@@ -24,7 +24,7 @@ use rl_frames::switch_frame::SwitchFrame;
 use rl_grammar::sort::{ExpressionTree, SwitchCaseTree, SwitchCaseTrees};
 use rl_grammar::tree::{Tree, Trees};
 use rl_lower_expressions::expression::lower_expression;
-use rl_lower_expressions::graph_builder::GraphBuilder;
+use rl_lower_parts::graph_builder::GraphBuilder;
 use rl_names::names::FunctionNames;
 use rl_syntax::numbered::{At, Numbered};
 use std::alloc::Global;

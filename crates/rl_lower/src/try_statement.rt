@@ -1,14 +1,12 @@
 //! Lowering of `try` statements.
 
-ghost use Rattle.std.specs.Prelude.{◌≡◌, ◌+◌, ◌<◌, ◌++◌, ◌^◌, None, codes, length, OnOk, IfOk, IfErr};
-ghost use Rattle.std.specs.Fmt.{decimal};
+ghost use Rattle.std.specs.Prelude.{◌≡◌, None, map, OnOk, IfErr};
 ghost use Rattle.rl_ast.specs.BindingViews.{seen_binding_identifier};
 ghost use Rattle.rl_ast.specs.StatementViews.{seen_statement};
 ghost use Rattle.rl_builder.specs.Builder.{state_of};
 ghost use Rattle.rl_grammar.specs.Fields.{maybe};
 ghost use Rattle.rl_lower.specs.Tries.{IsStored, caught_try, noted_finalizer};
 ghost use Rattle.rl_lowered.specs.Arounds.{arounds};
-ghost use Rattle.rl_lowered.specs.Lowered.{caught, promoted};
 ghost use Rattle.rl_lowered.specs.Named.{IsNamed};
 ghost use Rattle.rl_lowered.specs.Promised.{HasRoom, LowersStatement, share};
 ghost use Rattle.rl_names.specs.Seen.{seen};
@@ -23,48 +21,20 @@ use rl_ast::binding::{
 use rl_ast::statement::Statement;
 use rl_ast::statement_part::{CatchClause, catch_clause_view};
 use rl_base::error::OutOfMemory;
-use rl_base::ids::IdentifierId;
 use rl_base::row::Row;
 use rl_base::span::Span;
 use rl_base::stop::Stop;
-use rl_base::text::Text;
 use rl_builder::unit_tables::ReadsUnit;
 use rl_frames::try_frame::TryFrame;
 use rl_grammar::sort::{BlockStatementTree, CatchClauseTree};
-use rl_hir::function::IdentifierName;
 use rl_hir::instruction::{InstructionKind, InstructionValue, Place};
-use rl_lower_expressions::graph_builder::GraphBuilder;
-use rl_lower_expressions::span::span_of;
-use rl_lower_expressions::temporary::{lower_value_to_temporary, refuse};
+use rl_lower_parts::graph_builder::GraphBuilder;
+use rl_lower_parts::promoted::make_promoted;
+use rl_lower_parts::span::span_of;
+use rl_lower_parts::temporary::{lower_value_to_temporary, refuse};
 use rl_names::names::FunctionNames;
 use rl_syntax::numbered::At;
 use std::alloc::Global;
-
-/// The name of a temporary that has one: `#t0`, `#t1` and so on.
-fn temporary_name(alloc: Global, identifier: IdentifierId) -> Result<Text, OutOfMemory>
-    ensures { IfOk result (λ name. name ≡ codes "#t" ++ decimal identifier.0) }
-{
-    let number = identifier.0;
-    Ok(Text::new(format!(in alloc; "#t{number}")?))
-}
-
-/// A fresh temporary with a name of its own (`promoteTemporary`).
-fn make_promoted<U: ReadsUnit>(
-    alloc: Global,
-    builder: &mut GraphBuilder<'_, U>,
-    span: Span,
-) -> Result<Place, OutOfMemory>
-    requires identifiers { length (state_of U.tables builder.old).env.identifiers < 2 ^ 32 }
-    requires types { (state_of U.tables builder.old).env.next_type + 1 < 2 ^ 32 }
-    ensures same_reference { builder.new.env.ghost_name ≡ builder.old.env.ghost_name }
-    ensures state { OnOk result (state_of U.tables builder.new ≡ promoted (state_of U.tables builder.old) span) }
-    ensures place { IfOk result (λ place. place ≡ caught (state_of U.tables builder.old) span) }
-{
-    let place = builder.create_temporary_place(Some(span))?;
-    let name = IdentifierName::Promoted(temporary_name(alloc, place.identifier)?);
-    builder.environment_mut().set_name(place.identifier, name);
-    Ok(place)
-}
 
 /// Gives the caught value to the variable that a `catch` declares.
 fn store_caught<U: ReadsUnit>(

@@ -22,21 +22,24 @@ use Rattle.rl_unit.specs.declared.run.Status.{Status}
 use Rattle.rl_unit.specs.declared.run.Status.TheVariants.{Done, Reported, Malformed, TooLarge, ReadFault, WriteFault, OutOfMemory, Usage}
 
 -- Bytes read within the limit are all that were left.
-pub all_read : (left : Option (List ℕ)) (bytes : List ℕ) → IfSome left (λ known. bytes ≡ take most_read known) → length bytes ≤ most_bytes → IfSome left (λ known. bytes ≡ known)
+pub all_read : (left : Option (List ℕ)) (bytes : List ℕ) → IfSome left (λ known. bytes ≡ take most_read known) → length bytes ≤ most_bytes
+    → IfSome left (λ known. bytes ≡ known)
 all_read None bytes first within = tt
 all_read (Some known) bytes first within =
     let count : length bytes ≡ min most_read (length known) = ap length first ∙ length-take most_read known in
     first ∙ take_all most_read known (omega arith)
 
 -- A part that is past the limit of bytes is past the limits.
-more_left : (left : Option (List ℕ)) (bytes : List ℕ) → IfSome left (λ known. bytes ≡ take most_read known) → most_bytes < length bytes → RefusesKnown left TooLarge
+more_left : (left : Option (List ℕ)) (bytes : List ℕ) → IfSome left (λ known. bytes ≡ take most_read known) → most_bytes < length bytes
+    → RefusesKnown left TooLarge
 more_left None bytes first past = record { no_output = tt; refuses = tt }
 more_left (Some known) bytes first past =
     let count : length bytes ≡ min most_read (length known) = ap length first ∙ length-take most_read known in
     record { no_output = tt; refuses = inl (omega arith) }
 
 -- The bytes that were read pass the limits if all that were left do.
-too_large_known : (left : Option (List ℕ)) (bytes : List ℕ) → IfSome left (λ known. bytes ≡ take most_read known) → IsTooLarge bytes → RefusesKnown left TooLarge
+too_large_known : (left : Option (List ℕ)) (bytes : List ℕ) → IfSome left (λ known. bytes ≡ take most_read known) → IsTooLarge bytes
+    → RefusesKnown left TooLarge
 too_large_known None bytes first large = record { no_output = tt; refuses = tt }
 too_large_known (Some known) bytes first large = elim (cases_lt most_bytes (length bytes)) [
   | inl past ↦ more_left (Some known) bytes first past
@@ -60,7 +63,8 @@ module _ (u : Syntax) (rules : least_broken u ≡ None) (covered : pending u ≡
       covered = covered;
       unsupported = λ supported. never_both (stop_of (names_of u) (marked u)) said stops supported.goes_on;
     };
-    written = subst (λ (o : Option Diagnostic). IsRowText o (refusals_of (names_of u) (marked u)) (line_of said)) (sym stops) (StopText said);
+    written = subst (λ (o : Option Diagnostic). IsRowText o (refusals_of (names_of u) (marked u)) (line_of said)) (sym stops)
+        (StopText said);
   }
 
   pub refusals_row : (said : List Diagnostic) → stop_of (names_of u) (marked u) ≡ None
@@ -87,7 +91,8 @@ module _ (u : Syntax) (rules : least_broken u ≡ None) (covered : pending u ≡
         (subst (λ (l : List Diagnostic). IsRowText None l skipped_line) (sym accepted) SkipText);
   }
 
-malformed_known : (left : Option (List ℕ)) (bytes : List ℕ) → IfSome left (λ known. bytes ≡ known) → IsMalformed bytes → RefusesKnown left Malformed
+malformed_known : (left : Option (List ℕ)) (bytes : List ℕ) → IfSome left (λ known. bytes ≡ known) → IsMalformed bytes
+    → RefusesKnown left Malformed
 malformed_known None bytes same m = record { no_output = tt; refuses = tt }
 malformed_known (Some known) bytes same m = record { no_output = tt; refuses = subst IsMalformed same m }
 
@@ -101,8 +106,10 @@ pub nothing_said : (left : Option (List ℕ)) → IfSome left (λ known. Unit {0
 nothing_said None = tt
 nothing_said (Some known) = tt
 
-pub refuses_left : (left : Option (List ℕ)) (bytes : List ℕ) (status : Status) → IfSome left (λ known. bytes ≡ take most_read known) → RefusesKnown (Some bytes) status → RefusesKnown left status
-refuses_left left bytes Malformed first r = malformed_known left bytes (all_read left bytes first (within_bytes bytes r.refuses.within)) r.refuses
+pub refuses_left : (left : Option (List ℕ)) (bytes : List ℕ) (status : Status) → IfSome left (λ known. bytes ≡ take most_read known)
+    → RefusesKnown (Some bytes) status → RefusesKnown left status
+refuses_left left bytes Malformed first r =
+    malformed_known left bytes (all_read left bytes first (within_bytes bytes r.refuses.within)) r.refuses
 refuses_left left bytes TooLarge first r = too_large_known left bytes first r.refuses
 refuses_left left bytes ReadFault first r = record { no_output = tt; refuses = nothing_said left }
 refuses_left left bytes OutOfMemory first r = record { no_output = tt; refuses = nothing_said left }
@@ -126,7 +133,8 @@ output_answers WriteFault u text is = absurd is
 output_answers OutOfMemory u text is = absurd is
 output_answers Usage u text is = absurd is
 
-spelled_known : (left : Option (List ℕ)) (bytes : List ℕ) (u : Syntax) → left ≡ Some bytes → IfSome left (λ known. Spells known u) → Spells bytes u
+spelled_known : (left : Option (List ℕ)) (bytes : List ℕ) (u : Syntax) → left ≡ Some bytes → IfSome left (λ known. Spells known u)
+    → Spells bytes u
 spelled_known left bytes u is spelled = subst (λ o. IfSome o (λ known. Spells known u)) is spelled
 
 pub output_complete : (left : Option (List ℕ)) (status : Status) (text : List ℕ) → WritesKnown left status text → IsComplete left status
@@ -140,7 +148,8 @@ output_complete left status text w = record {
 no_unit : (left : Option (List ℕ)) (status : Status) (bytes : List ℕ) → RefusesKnown left status → left ≡ Some bytes → Refuses status bytes
 no_unit left status bytes r is = subst (λ o. IfSome o (λ known. Refuses status known)) is r.refuses
 
-refusal_answers : (status : Status) (left : Option (List ℕ)) (bytes : List ℕ) (u : Syntax) → RefusesKnown left status → left ≡ Some bytes → (IsTooLarge bytes → ⊥) → Spells bytes u → IsAnswer u status
+refusal_answers : (status : Status) (left : Option (List ℕ)) (bytes : List ℕ) (u : Syntax) → RefusesKnown left status → left ≡ Some bytes
+    → (IsTooLarge bytes → ⊥) → Spells bytes u → IsAnswer u status
 refusal_answers Malformed left bytes u r is within spells = (no_unit left Malformed bytes r is).no_unit u spells
 refusal_answers TooLarge left bytes u r is within spells = absurd (within (no_unit left TooLarge bytes r is))
 refusal_answers ReadFault left bytes u r is within spells = tt
@@ -153,15 +162,19 @@ refusal_answers WriteFault left bytes u r is within spells = absurd r.no_output
 pub refusal_complete : (left : Option (List ℕ)) (status : Status) → RefusesKnown left status → IsComplete left status
 refusal_complete left status r = record { answers = λ bytes u is within spells. refusal_answers status left bytes u r is within spells }
 
-pub reads_whole : (left new : Option (List ℕ)) (bytes : List ℕ) → Consumes left new bytes → IfSome left (λ known. bytes ≡ take most_read known) → ReadsWhole left new
+pub reads_whole : (left new : Option (List ℕ)) (bytes : List ℕ) → Consumes left new bytes
+    → IfSome left (λ known. bytes ≡ take most_read known) → ReadsWhole left new
 reads_whole None new bytes gone first = tt
 reads_whole (Some known) None bytes gone first = absurd gone
 reads_whole (Some known) (Some rest) bytes gone first = gone ∙ ap (λ (b : List ℕ). b ++ rest) first
 
 -- A status determines the bytes if neither source nor sink fails.
-pub steady_answer : (status : Status) (bytes : List ℕ) (left old new : Option (List ℕ)) → left ≡ Some bytes → Explains status left old new → (status ≢ Usage) → (status ≡ ReadFault → ⊥) → (status ≡ WriteFault → ⊥) → AnswersSteadily bytes status
-steady_answer Done bytes left old new is e command read write = (e.1.source, spelled_known left bytes e.1.source is e.1.spelled, output_answers Done e.1.source e.0 e.1.is_output)
-steady_answer Reported bytes left old new is e command read write = (e.1.source, spelled_known left bytes e.1.source is e.1.spelled, reported e.1.source e.0 e.1.is_output)
+pub steady_answer : (status : Status) (bytes : List ℕ) (left old new : Option (List ℕ)) → left ≡ Some bytes → Explains status left old new
+    → (status ≢ Usage) → (status ≡ ReadFault → ⊥) → (status ≡ WriteFault → ⊥) → AnswersSteadily bytes status
+steady_answer Done bytes left old new is e command read write =
+    (e.1.source, spelled_known left bytes e.1.source is e.1.spelled, output_answers Done e.1.source e.0 e.1.is_output)
+steady_answer Reported bytes left old new is e command read write =
+    (e.1.source, spelled_known left bytes e.1.source is e.1.spelled, reported e.1.source e.0 e.1.is_output)
 steady_answer Malformed bytes left old new is e command read write = subst (λ o. IfSome o (λ known. Refuses Malformed known)) is e.0.refuses
 steady_answer TooLarge bytes left old new is e command read write = subst (λ o. IfSome o (λ known. Refuses TooLarge known)) is e.0.refuses
 steady_answer ReadFault bytes left old new is e command read write = read refl

@@ -57,7 +57,8 @@ absent_last : (t : Syntax) → not (is_absent t) ≡ true → t ≢ Absent
 absent_last t has is = true≢false (sym has ∙ ap (λ (t : Syntax). not (is_absent t)) is)
 
 abbrev parts_of : Function → Pieces
-parts_of f = Then (Flag f.marked) (Then (Flag f.is_async) (Then (Flag f.generator) (Then (maybe f.name (λ t. syntax t.tree.now)) (Then (syntax f.params.tree.now) (Then (maybe f.body (λ t. syntax t.tree.now)) End)))))
+parts_of f = Then (Flag f.marked) (Then (Flag f.is_async) (Then (Flag f.generator) (Then (maybe f.name (λ t. syntax t.tree.now))
+    (Then (syntax f.params.tree.now) (Then (maybe f.body (λ t. syntax t.tree.now)) End)))))
 
 abbrev with_form : Function → FunctionForm → Syntax
 with_form f form = Node f.at (function_word form) (parts_of f)
@@ -76,6 +77,7 @@ by_form f form.Expression is fit has =
     subst (λ (form : FunctionForm). body_in (with_form f form) ≢ Absent) (sym is) (absent_braces body parts.5)
 
 -- The body of a function that fits the grammar is there, if it has one.
-pub body_there : (f : FunctionNode) → is_function (seen_function_node f) ≡ true → HasBody (seen_function_node f) → body_in (seen_function_node f) ≢ Absent
+pub body_there : (f : FunctionNode) → is_function (seen_function_node f) ≡ true → HasBody (seen_function_node f)
+    → body_in (seen_function_node f) ≢ Absent
 body_there (function_node.Arrow f) fit has = absent_body (syntax f.body.tree.now) f.body.fit
 body_there (function_node.Function f) fit has = by_form f f.form refl fit has

@@ -22,14 +22,16 @@ unit_nodes bytes u spells small =
     let few : 65536 < nodes_in bytes → ⊥ = λ more. small (inr (inl more)) in
     omega (arith, counted, few)
 
-pub few_nodes : (bytes : List ℕ) (u f : Syntax) → Spells bytes u → (IsTooLarge bytes → ⊥) → first (marked_functions u) ≡ Some f → nodes f ≤ 65536
+pub few_nodes : (bytes : List ℕ) (u f : Syntax) → Spells bytes u → (IsTooLarge bytes → ⊥) → first (marked_functions u) ≡ Some f
+    → nodes f ≤ 65536
 few_nodes bytes u f spells small found =
     let all : nodes u ≤ 65536 = unit_nodes bytes u spells small in
     let inside : nodes f ≤ nodes u = inside_few u f (first_found u f found).0 in
     omega (arith, all, inside)
 
 -- A function alone is bounded in the unit's nodes if it is in its own.
-pub alone_bounded : (u f : Syntax) (h : HirFunction (List BlockPair)) → first (marked_functions u) ≡ Some f → function_size h ≤ 64 * nodes f → (inner : List InnerFunction) → inner ≡ [] → function_size h + inner_size inner ≤ 64 * nodes u
+pub alone_bounded : (u f : Syntax) (h : HirFunction (List BlockPair)) → first (marked_functions u) ≡ Some f
+    → function_size h ≤ 64 * nodes f → (inner : List InnerFunction) → inner ≡ [] → function_size h + inner_size inner ≤ 64 * nodes u
 alone_bounded u f h found few inner none =
     let nothing : inner_size inner ≡ 0 = ap inner_size none in
     let inside : nodes f ≤ nodes u = inside_few u f (first_found u f found).0 in
@@ -39,7 +41,8 @@ alone_bounded u f h found few inner none =
 pub fresh_room : (env fresh : Environment) (n : ℕ) → env ≡ fresh → fresh.next_block ≡ 0 → fresh.next_type ≡ 0 → fresh.identifiers ≡ []
     → n ≤ 65536 → (tables : FunctionTables) → HasRoom (begun_by env tables) (share n)
 fresh_room env fresh n is blocks types identifiers few tables =
-    let none : length env.identifiers ≡ 0 = ap (λ (e : Environment). length e.identifiers) is ∙ ap (λ (l : List Identifier). length l) identifiers in
+    let none : length env.identifiers ≡ 0 =
+    ap (λ (e : Environment). length e.identifiers) is ∙ ap (λ (l : List Identifier). length l) identifiers in
     let no_block : env.next_block ≡ 0 = ap (λ (e : Environment). e.next_block) is ∙ blocks in
     let no_type : env.next_type ≡ 0 = ap (λ (e : Environment). e.next_type) is ∙ types in
     omega (arith, no_block, no_type, none, few)

@@ -136,7 +136,7 @@ fn lower_function(
     function: FunctionNode<'_>,
 ) -> Result<Lowered, LowerError>
     requires may { MayLower (seen names.now) (seen_function_node function) }
-    requires spans { KnowsSpans names.now.resolver.now.semantic.now.bindings.symbols (seen_function_node function) }
+    requires spans { KnowsSpans (seen names.now) names.now.resolver.now.semantic.now.bindings.symbols (seen_function_node function) }
     ensures lowered { IfOk result (λ l. IsResultOf (seen names.now) (seen_function_node function.entry) l) }
     ensures error { IfErr result (λ e. IsFunctionError (seen names.now) (seen_function_node function.entry) e) }
 {
@@ -162,7 +162,7 @@ fn lower_in(
     function: FunctionNode<'_>,
 ) -> Result<Lowered, LowerError>
     requires may { MayLower (shown semantic.now (at_of (seen_function_node function))) (seen_function_node function) }
-    requires spans { KnowsSpans semantic.now.bindings.symbols (seen_function_node function) }
+    requires spans { KnowsSpans (shown semantic.now (at_of (seen_function_node function))) semantic.now.bindings.symbols (seen_function_node function) }
     ensures lowered { IfOk result (λ l. IsResultOf (shown semantic.now (at_of (seen_function_node function.entry))) (seen_function_node function.entry) l) }
     ensures error { IfErr result (λ e. IsFunctionError (shown semantic.now (at_of (seen_function_node function.entry))) (seen_function_node function.entry) e) }
 {

@@ -22,7 +22,7 @@ use Rattle.rl_promises.specs.Jumps.{Around, InLoop, InSwitch}
 use Rattle.rl_promises.specs.Lowerable.{AreLowerableIn, IsLowerableIn, AreLowerableCases}
 use Rattle.rl_runs.specs.Moves.{block_id}
 use Rattle.rl_syntax.specs.Syntax.{Syntax, Pieces, Then, nodes, nodes_of, pieces_of, syntax, End}
-use Rattle.rl_lower_expressions.proofs.Derivations.{room_after}
+use Rattle.rl_lower_parts.proofs.Derivations.{room_after}
 use Rattle.rl_lower.proofs.LoopDerivations.{break_may, continue_may, do_while_bodied_size, do_while_told, for_begun_arounds, for_begun_size}
 use Rattle.rl_lower.proofs.LoopDerivations.{for_bodied_size, for_inited_arounds, for_inited_names, for_inited_size, for_plain_arounds}
 use Rattle.rl_lower.proofs.LoopDerivations.{for_plain_told, for_updated_arounds, for_updated_size, for_updated_told, if_consequent_arounds}
@@ -41,7 +41,7 @@ use Rattle.rl_lower.proofs.StatementDerivations.{statements_done, statements_nex
 use Rattle.rl_lower.proofs.TryDerivations.{with_told, caught_arounds, handler_kept, plain_arounds, try_caught_size, try_plain_told}
 use Rattle.rl_lower.proofs.TryDerivations.{try_started_size, bound_front_room, bound_room, front_named, stored_arounds, try_bound_told}
 use Rattle.rl_lower.proofs.TryDerivations.{caught_ok, clause_may, clause_room, caught_may, caught_room, finalized_ok, finalizer_arounds}
-use Rattle.rl_lower.proofs.TryDerivations.{finalizer_named, uncaught_told}
+use Rattle.rl_lower.proofs.TryDerivations.{finalizer_named, never_apart, uncaught_told}
 use Rattle.rl_base.specs.declared.span.Span.{Span}
 use Rattle.rl_frames.specs.SwitchParts.{SwitchParts, switch_entered, switch_left, switch_of, switch_begun}
 use Rattle.rl_lower.proofs.SwitchDerivations.{case_framed, case_scope, behind_arounds, behind_label, behind_named, behind_room, cases_begun}
@@ -1336,7 +1336,7 @@ try_statement::lower_try_plain-lower_block-requires-2 g t c =
                 inside (seen c.args.names.now) (syntax c.args.block.tree.now) s b2
                 (caught_arounds (try_of c.in_ok-frame.frame) c.args.there.span s2 b2 c.in_ok-catch.ensures.state
                 ∙ statement_arounds c.in_ok-lower_block.ensures.lowered.by ∙ plain_arounds s b c.in_ok-frame.ensures.state)
-                c.requires.may.2,
+                c.requires.may.3,
             let block : ℕ = nodes (syntax c.args.block.tree.now) in
                 let body : ℕ = nodes (syntax c.args.body.tree.now) in
                 let s : State = state_of g.U.ReadsUnit.tables c.args.builder.now in
@@ -1400,7 +1400,7 @@ try_statement::lower_try_bound-lower_block-requires g t c =
                 inside (seen c.args.names.now) (syntax c.args.body.tree.now) s b1
                 (stored_arounds s s1 b0 b1 c.in_ok-store_caught.ensures.stored c.in_ok-value.ensures.state c.in_ok-value.ensures.place
                 c.in_ok-frame.ensures.state)
-                c.requires.may.1,
+                c.requires.may.2,
             let block : ℕ = nodes (syntax c.args.block.tree.now) in
                 let param : ℕ = nodes (seen_binding_identifier c.args.bind.now) in
                 let body : ℕ = nodes (syntax c.args.body.tree.now) in
@@ -1456,7 +1456,7 @@ try_statement::lower_try_bound-lower_block-requires-2 g t c =
                 ∙ statement_arounds c.in_ok-lower_block.ensures.lowered.by
                 ∙ stored_arounds s s1 b0 b1 c.in_ok-store_caught.ensures.stored c.in_ok-value.ensures.state c.in_ok-value.ensures.place
                 c.in_ok-frame.ensures.state)
-                c.requires.may.2,
+                c.requires.may.3,
             let block : ℕ = nodes (syntax c.args.block.tree.now) in
                 let param : ℕ = nodes (seen_binding_identifier c.args.bind.now) in
                 let body : ℕ = nodes (syntax c.args.body.tree.now) in
@@ -1521,6 +1521,14 @@ try_statement::lower_caught-returns-in-Identifier-clause-lowered g t c =
     c.lower_try_bound.result
     (c.binding_identifier_view-bind.ensures ∙ c.in-Identifier.ensures
     ∙ sym (ap (λ param. maybe param (λ t. syntax t.tree.now)) c.in-Some.is)) c.lower_try_bound.ensures.lowered
+
+pub try_statement::lower_caught-unreachable-requires : goal.try_statement::lower_caught-unreachable-requires
+try_statement::lower_caught-unreachable-requires g t c =
+    never_apart (c.in-Array.ensures ∙ sym (ap (λ param. maybe param (λ t. syntax t.tree.now)) c.in-Some.is)) refl c.requires.may.0
+
+pub try_statement::lower_caught-unreachable-requires-in-Object : goal.try_statement::lower_caught-unreachable-requires-in-Object
+try_statement::lower_caught-unreachable-requires-in-Object g t c =
+    never_apart (c.in-Object.ensures ∙ sym (ap (λ param. maybe param (λ t. syntax t.tree.now)) c.in-Some.is)) refl c.requires.may.0
 
 pub try_statement::lower_caught-lower_try_plain-requires : goal.try_statement::lower_caught-lower_try_plain-requires
 try_statement::lower_caught-lower_try_plain-requires g t c =

@@ -4,7 +4,8 @@ use Rattle.rl_grammar.specs.Fields.{maybe}
 use Rattle.rl_lowered.specs.Promised.{HasRoom, share}
 use Rattle.rl_names.specs.Seen.{seen}
 use Rattle.rl_syntax.specs.Syntax.{Syntax, nodes, syntax}
-use Rattle.rl_lower.proofs.SwitchDerivations.{case_test_shown, case_tested, case_untested, moving_named, moving_room}
+use Rattle.rl_lower.proofs.SwitchDerivations.{case_test_shown, case_tested, case_untested, moving_room}
+use Rattle.rl_lower_parts.proofs.MovedDerivations.{moving_named}
 use Rattle.rl_lower.proofs.case_test.lower_case_test.Goals as goal
 
 pub lower_expression-requires-clause-names : goal.lower_expression-requires-clause-names

@@ -6,12 +6,12 @@ use Rattle.rl_lower.proofs.function.look_for_targets.Goals as goal
 
 pub returns-clause-goes_on : goal.returns-clause-goes_on
 returns-clause-goes_on c =
-    goes_behind (seen c.args.names.now) c.look_inside.result c.in_ok-find_context_identifiers.ensures.unwrapped c.params_tree.ensures
+    goes_behind (seen c.args.names.now) c.look_inside.result c.in_ok-find_context_identifiers.ensures.unwrapped c.params_of.ensures
     c.requires.body c.look_inside.ensures.goes_on
 
 pub returns-clause-stopped : goal.returns-clause-stopped
 returns-clause-stopped c =
-    stopped_behind (seen c.args.names.now) c.look_inside.result c.in_ok-find_context_identifiers.ensures.unwrapped c.params_tree.ensures
+    stopped_behind (seen c.args.names.now) c.look_inside.result c.in_ok-find_context_identifiers.ensures.unwrapped c.params_of.ensures
     c.requires.body c.look_inside.ensures.stopped
 
 pub returns-in_err-find_context_identifiers-clause-stopped : goal.returns-in_err-find_context_identifiers-clause-stopped

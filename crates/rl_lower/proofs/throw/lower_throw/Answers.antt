@@ -3,7 +3,7 @@ use Rattle.rl_builder.specs.Builder.{State, state_of}
 use Rattle.rl_lowered.specs.Promised.{share}
 use Rattle.rl_names.specs.Seen.{seen}
 use Rattle.rl_syntax.specs.Syntax.{nodes, syntax}
-use Rattle.rl_lower_expressions.proofs.Derivations.{room_after}
+use Rattle.rl_lower_parts.proofs.Derivations.{room_after}
 use Rattle.rl_lower.proofs.TryDerivations.{throw_ok, throwing_room}
 use Rattle.rl_lower.proofs.throw.lower_throw.Goals as goal
 

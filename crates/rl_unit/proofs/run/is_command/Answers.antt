@@ -2,7 +2,7 @@ use Rattle.std.proofs.Common.{◌≡◌, ℕ, List, [], ◌∷◌, codes, get_or
 use Rattle.std.proofs.lemmas.Slice.Eq.{bytes_eq-Decides}
 use Rattle.rl_unit.proofs.run.is_command.Goals as goal
 
--- a list of one item
+-- A list with one item and no second is that item.
 alone : {X : Type 0} (items : List X) (item : X) → 1 ≤ length items → length items < 2 → item ≡ get_or items 0 item → items ≡ item ∷ []
 alone [] item low high first = absurd (omega arith)
 alone (other ∷ []) item low high first = ap (λ t. t ∷ []) (sym first)
