@@ -86,7 +86,7 @@ IsAlike None None = Unit {0}
 IsAlike (Some place) (Some test) = Unit {0}
 IsAlike _ _ = ⊥
 
--- The same cases have tests.
+-- Both lists are of one length, and the cases that have tests stand at the same indices of both.
 abbrev pub AreAlike : List Case → List CaseMeaning → Type 0
 AreAlike [] [] = Unit {0}
 AreAlike (k ∷ cases) (m ∷ ms) = IsAlike k.test m.test × AreAlike cases ms

@@ -1,4 +1,4 @@
--- Where lines end.
+-- The ends of lines.
 use Rattle.std.proofs.Common.{◌≡◌, ◌∙◌, ◌⊎◌, inl, inr, ◌++◌, ◌∷◌, [], ℕ, Bool, true, false, ◌&&◌, ◌||◌, ◌==◌, cond, List, ◌+◌, ◌-◌, ◌<◌, length, take, drop, get_or, refl, sym, ap, arith}
 use Rattle.std.specs.List.{list_all, onto_first}
 use Rattle.std.proofs.lemmas.List.{drop_more, take-append-drop}

@@ -99,21 +99,21 @@ module _ (nodes : List NodeEntry) (h : Hints) (b : Tables) where
       (all_passed (index + 1) es
       (λ k. let next : index + 1 + k ≡ index + suc k = omega arith in ap (slice_get nodes) next ∙ same (suc k)) rest.1)
 
-  -- What the test says of a site.
+  -- The facts that the test of a site decides.
   abbrev IsTold : Site → Type 0
   IsTold (site.Use u) = ((function_at h.functions u.at.id.0).0 ≡ u.function.0) × (is_clear_use h b u.at ≡ true)
   IsTold (site.Late d) = ((function_at h.functions d.bind.0).0 ≡ d.function.0) × (d.statement.0 < d.bind.0)
       × (named_scope nodes d.bind.0 ≡ None) × (is_on_path h.paths d.bind.0 ≡ false)
   IsTold (site.Named f) = named_scope nodes f.bind.id.0 ≡ Some f.scope
 
-  -- What a place says of the parent of a node there.
+  -- The facts on the parent of a node that stands in a place.
   abbrev Stands : Place → (parent : Option NodeId) → Type 0
   Stands (place.Late first statement) parent = (parent_scope nodes parent ≡ None) × (is_up_from statement parent ≡ true)
   Stands (place.Name scope) parent = parent_scope nodes parent ≡ Some scope
   Stands (place.Listed first) parent = Unit {0}
   Stands place.Elsewhere parent = Unit {0}
 
-  -- What the walk found inside a node, if it came there.
+  -- The walk found nothing inside a node that is around a path.
   abbrev Looked : (parent : Option NodeId) → (found : Bool) → Type 0
   Looked parent found = is_path_around h.paths parent ≡ true → found ≡ false
 

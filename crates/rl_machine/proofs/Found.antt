@@ -114,7 +114,7 @@ no_preds_changed x change pairs keeps n =
     by_id true p e = keeps p.1 e
     by_id false p e = e
 
--- Where no block has a predecessor, no fallthrough is lost.
+-- No fallthrough is lost if no block has a predecessor.
 none_lost : (dead : DeadTry) (pairs : List Pair) → NoPreds pairs → filter (λ p. not (is_lost dead p)) pairs ≡ pairs
 none_lost dead [] n = refl
 none_lost dead (p ∷ pairs) n =

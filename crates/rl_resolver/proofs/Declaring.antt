@@ -1,4 +1,4 @@
--- What the first item of a list says: the symbol that a node declares, and if a name has a reference.
+-- The first item of a list: the symbol that a node declares, and if a name has a reference.
 use Rattle.std.proofs.Common.{◌≡◌, Option, Some, None, true, false, List, [], ◌∷◌, refl}
 use Rattle.rl_ast.specs.Marked.{first}
 use Rattle.rl_base.specs.declared.ids.SymbolId.{SymbolId}

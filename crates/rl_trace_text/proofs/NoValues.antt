@@ -1,4 +1,4 @@
--- What is read is all that there is: where no form of a value was read, the tree is that of no value.
+-- Reading is complete: a tree of which no form of a value was read is that of no value.
 use Rattle.std.proofs.Common.{◌≡◌, ℕ, None, Some, List, [], ◌∷◌, codes, map, sym, ap, ◌∙◌}
 use Rattle.std.proofs.lemmas.List.Elements.{All-nil, All-cons}
 use Rattle.std.specs.Prelude.{All}

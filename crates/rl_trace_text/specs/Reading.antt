@@ -1,4 +1,4 @@
--- What is read from a tree: `shown` gives the tree of a value, and `fits` holds of the values that can be read.
+-- Reading of a tree: `shown` gives the tree of a value, and `fits` holds of the values that can be read.
 use Rattle.std.specs.Prelude.{◌≡◌, ℕ, ◌<◌, ◌^◌}
 use Rattle.rl_text.specs.Notation.{Tree, Parts}
 

@@ -12,7 +12,7 @@ use rl_text::raw::Raw;
 use rl_text::read::{TextError, read_raw_within};
 use std::alloc::Global;
 
-/// What a function is run with.
+/// The start values, arguments and answers with which a function is run.
 #[derive(Drop)]
 pub struct Arguments {
     /// The number of the function; `None` for the marked one.
@@ -62,7 +62,7 @@ fn read_word<T: FromTree>(alloc: Global, word: &[u8]) -> Result<Option<T>, OutOf
     }
 }
 
-/// What the four words spell. `None` if one of them is not of its form. On `OutOfMemory` an allocation failed.
+/// Reads the four words. `None` if one of them is not of its form. On `OutOfMemory` an allocation failed.
 #[tactic(auto, using(crate::proofs::Heights::no_words))]
 pub fn read_words(
     alloc: Global,
