@@ -1,7 +1,8 @@
 #!/usr/bin/env python3
-"""Checks what the documents cite: that each file stands there, that each name in backquotes is a word of the crates' files, and
-that each snippet stands in the file that a comment `<!-- from FILE -->` in front of it names, white space aside. A line `// ..`
-of a snippet stands for lines that it leaves out. Prints what is missing, and ends with status 1 where something is."""
+"""Checks what the documents cite: that each file stands there, that each name in backquotes is a word of the crates' files, that
+each snippet stands in the file that a comment `<!-- from FILE -->` in front of it names, white space aside, and that each row of
+refusals and stops has the category and a message of rl_base's table. A line `// ..` of a snippet stands for lines that it leaves
+out. Prints what is missing, and ends with status 1 where something is."""
 import pathlib, re, sys
 
 TOP = pathlib.Path(__file__).resolve().parent.parent
@@ -48,6 +49,18 @@ def strayed_snippets(text):
                 break
 
 
+def other_rows(text):
+    """Rows of a table of refusals or stops with another category or message than `rl_base/specs/Rows.antt` has."""
+    table = (TOP / "crates/rl_base/specs/Rows.antt").read_text()
+    categories = dict(re.findall(r"^category_of rows\.(\w+) = categories\.(\w+)$", table, re.M))
+    messages = dict(re.findall(r'^message_template rows\.(\w+) word = codes "(.*)"$', table, re.M))
+    by_word = re.findall(r'codes "([^"]{20,})"', re.search(r"^continue_message word =.*?\n\n", table, re.M | re.S)[0])
+    for row, category, told in re.findall(r"^\| ([FS]\d+) \| (\w+) \|.*?([^|]*(?:\\\|[^|]*)*) \|$", text, re.M):
+        message = re.sub(r"\\([`|])", r"\1", told).strip()
+        if category != categories[row] or message not in ([messages[row]] if row in messages else by_word):
+            yield f"row {row} is not as in rl_base/specs/Rows.antt: {category}, {message}"
+
+
 files = [it for kind in ("rt", "antt") for it in TOP.glob(f"crates/*/*/**/*.{kind}") if "out" not in it.parts]
 words = OUTSIDE | {it.name for it in (TOP / "crates").iterdir()}
 for file in files:
@@ -55,7 +68,7 @@ for file in files:
 found = False
 for page in PAGES:
     text = page.read_text()
-    for what in sorted({*missing_files(text), *missing_names(text, words), *strayed_snippets(text)}):
+    for what in sorted({*missing_files(text), *missing_names(text, words), *strayed_snippets(text), *other_rows(text)}):
         found = True
         print(f"{page.relative_to(TOP)}: {what}")
 sys.exit(found)
