@@ -42,7 +42,7 @@ class Grammar:
     scopes: list[str]
 
     def field_meaning(self, line, field):
-        """What a field is; without a full stop, it is to be followed by what the field's sort is."""
+        """The meaning of a field; without a full stop, that of the field's sort is to follow it."""
         return self.fields.get(f"{line.word}.{field.name}") or self.fields.get(field.name)
 
     def words(self):

@@ -141,7 +141,7 @@ def kind_file():
 
 
 def meaning(sort):
-    """What a sort is; of a sort of one kind of node, what that kind is too."""
+    """The meaning of a sort; of a sort of one kind of node, that of the kind too."""
     return " ".join([GRAMMAR.meanings[sort], *([SORTS[sort][0].meaning] if GRAMMAR.is_struct(sort) else [])])
 
 
@@ -254,7 +254,7 @@ def has_lifetime(sort):
 
 
 def noun(sort):
-    """What a tree of a sort is, in a few words: the beginning of the sort's meaning."""
+    """A few words for a tree of a sort: the beginning of the sort's meaning."""
     text = re.split("[(,:;.]", GRAMMAR.meanings[sort])[0].strip()
     return text[0].lower() + text[1:]
 
