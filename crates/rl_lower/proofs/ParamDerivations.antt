@@ -12,10 +12,11 @@ use Rattle.rl_hir.specs.declared.function.Param.{Param}
 use Rattle.rl_hir.specs.declared.function.Param.TheVariants as params
 use Rattle.rl_hir.specs.declared.instruction.InstructionKind.TheVariants as kinds
 use Rattle.rl_hir.specs.declared.instruction.Place.{Place}
-use Rattle.rl_lower.proofs.PatternDerivations.{pattern_node}
-use Rattle.rl_lower.specs.Declarators.{IsDeclared}
-use Rattle.rl_lower.specs.Patterns.{HasPatternRoom, LowersParam, LowersRestParam}
+use Rattle.rl_lower.specs.Params.{LowersParam, LowersRestParam}
 use Rattle.rl_lower_parts.specs.Patterns.{TakesDefault}
+use Rattle.rl_lower_patterns.proofs.PatternDerivations.{pattern_node}
+use Rattle.rl_lower_patterns.specs.Declarators.{IsDeclared}
+use Rattle.rl_lower_patterns.specs.Patterns.{HasPatternRoom}
 use Rattle.rl_lowered.proofs.Catches.{size_promoted}
 use Rattle.rl_lowered.proofs.Names.{names_promoted, names_temporary}
 use Rattle.rl_lowered.proofs.Sizes.{pattern_size}

@@ -1,9 +1,6 @@
 pub mod Begun
-pub mod Cases
-pub mod Declarators
 pub mod Endings
-pub mod Patterns
+pub mod Params
 pub mod Rooms
 pub mod Scenes
 pub mod Sound
-pub mod Tries

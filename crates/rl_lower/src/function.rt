@@ -45,7 +45,6 @@ ghost use Rattle.rl_syntax.specs.Syntax.{Syntax, Node, Listed, Absent, Pieces, T
 ghost use Rattle.rl_text.specs.Notation.{IsWritable};
 
 use crate::params::lower_parameters;
-use crate::statement::lower_statements;
 use rl_ast::binding::binding_identifier_view;
 use rl_ast::function::{
     Arrow, ArrowBody, arrow_body_view, formal_parameters_view, function_body_view,
@@ -71,6 +70,7 @@ use rl_hir::terminal::{ReturnVariant, Terminal, TerminalKind};
 use rl_lower_expressions::expression::lower_expression;
 use rl_lower_parts::graph_builder::GraphBuilder;
 use rl_lower_parts::temporary::lower_undefined;
+use rl_lower_statements::statement::lower_statements;
 use rl_names::names::FunctionNames;
 use rl_promises::body_stops::stop_in_body;
 use rl_promises::found_stop::FoundStop;
@@ -179,7 +179,8 @@ fn lower_body<U: ReadsUnit>(
     requires outermost { (state_of U.tables builder.old).scopes ≡ [] }
     requires room { HasRoom (state_of U.tables builder.old) (share (nodes (seen_arrow_body body) + 1)) }
     ensures same_reference { builder.new.env.ghost_name ≡ builder.old.env.ghost_name }
-    ensures lowered { OnOk result (LoweredBody (seen names.now) (seen_arrow_body body.entry) (state_of U.tables builder.old) (state_of U.tables builder.new)) }
+    ensures lowered { OnOk result (LoweredBody (seen names.now) (seen_arrow_body body.entry)
+        (state_of U.tables builder.old) (state_of U.tables builder.new)) }
     ensures memory { IfErr result (λ e. e ≡ Stop.OutOfMemory) }
 {
     match body {
@@ -221,9 +222,15 @@ fn lower_graph<U: ReadsUnit>(
     requires told { AreToldApart (seen names.now) (syntax parameters.tree.now) }
     requires may_take { IsLowerable (seen names.now) (syntax parameters.tree.now) }
     requires may { IsLowerableBody (seen names.now) (seen_arrow_body body) }
-    requires room { HasRoom (begun_by env.old (function_tables names.now scope (U.tables unit).sites)) (share (nodes (syntax parameters.tree.now) + nodes (seen_arrow_body body) + 1)) }
-    ensures graph { IfOk result (λ graph. (at : At) (items : Pieces) (rest : Syntax) → syntax parameters.entry.tree.now ≡ Node at Word.Params (Then (Listed items) (Then rest End)) → IsGraphOf (seen names.now) (function_tables names.now scope (U.tables unit).sites) items rest (seen_arrow_body body.entry) env.old env.new graph.params (graph_of graph.built)) }
-    ensures sound { IfOk result (λ graph. (at : At) (items : Pieces) (rest : Syntax) → syntax parameters.entry.tree.now ≡ Node at Word.Params (Then (Listed items) (Then rest End)) → IsSoundGraph items rest (seen_arrow_body body.entry) graph.params env.old env.new (graph_of graph.built)) }
+    requires room { HasRoom (begun_by env.old (function_tables names.now scope (U.tables unit).sites))
+        (share (nodes (syntax parameters.tree.now) + nodes (seen_arrow_body body) + 1)) }
+    ensures graph { IfOk result (λ graph. (at : At) (items : Pieces) (rest : Syntax)
+        → syntax parameters.entry.tree.now ≡ Node at Word.Params (Then (Listed items) (Then rest End))
+        → IsGraphOf (seen names.now) (function_tables names.now scope (U.tables unit).sites) items rest (seen_arrow_body body.entry)
+        env.old env.new graph.params (graph_of graph.built)) }
+    ensures sound { IfOk result (λ graph. (at : At) (items : Pieces) (rest : Syntax)
+        → syntax parameters.entry.tree.now ≡ Node at Word.Params (Then (Listed items) (Then rest End))
+        → IsSoundGraph items rest (seen_arrow_body body.entry) graph.params env.old env.new (graph_of graph.built)) }
     ensures memory { IfErr result (λ e. e ≡ Stop.OutOfMemory) }
 {
     let mut builder = GraphBuilder::<U>::over(
@@ -302,7 +309,8 @@ fn params_of<'b>(function: FunctionNode<'b>) -> FormalParametersTree<'b>
 
 /// The first stop in the parameters, and then in the body.
 fn first_found(names: &FunctionNames<'_>, params: &Numbered, body: &Numbered) -> Option<FoundStop>
-    ensures { option_map (seen_stop (seen names.now)) result ≡ option_or (first_stop (seen names.now) (syntax params.now)) (stop_in_body (seen names.now) (syntax body.now)) }
+    ensures { option_map (seen_stop (seen names.now)) result ≡ option_or (first_stop (seen names.now) (syntax params.now))
+        (stop_in_body (seen names.now) (syntax body.now)) }
 {
     match first_stop(names, params) {
         Some(found) => Some(found),
@@ -317,8 +325,10 @@ fn look_inside(
     params: &Numbered,
     body: &Numbered,
 ) -> Result<(), Stop>
-    ensures goes_on { OnOk result (option_or (first_stop (seen names.now) (syntax params.now)) (stop_in_body (seen names.now) (syntax body.now)) ≡ None) }
-    ensures stopped { IfErr result (λ e. (d : Said) → e ≡ Stop.Diagnostic d → option_or (first_stop (seen names.now) (syntax params.now)) (stop_in_body (seen names.now) (syntax body.now)) ≡ Some d) }
+    ensures goes_on { OnOk result (option_or (first_stop (seen names.now) (syntax params.now))
+        (stop_in_body (seen names.now) (syntax body.now)) ≡ None) }
+    ensures stopped { IfErr result (λ e. (d : Said) → e ≡ Stop.Diagnostic d
+        → option_or (first_stop (seen names.now) (syntax params.now)) (stop_in_body (seen names.now) (syntax body.now)) ≡ Some d) }
 {
     match first_found(names, params, body) {
         Some(found) => Err(Stop::Diagnostic(found.diagnostic(alloc, names)?)),
@@ -336,8 +346,13 @@ fn look_for_targets(
 ) -> Result<(), Stop>
     requires index { index.now ≡ sites_in (seen_function_node function) }
     requires body { syntax body.now ≡ body_in (seen_function_node function) }
-    ensures goes_on { OnOk result (option_or (stop_among (sites_in (seen_function_node function.entry))) (option_or (first_stop (seen names.now) (params_in (seen_function_node function.entry))) (stop_in_body (seen names.now) (body_in (seen_function_node function.entry)))) ≡ None) }
-    ensures stopped { IfErr result (λ e. (d : Said) → e ≡ Stop.Diagnostic d → option_or (stop_among (sites_in (seen_function_node function.entry))) (option_or (first_stop (seen names.now) (params_in (seen_function_node function.entry))) (stop_in_body (seen names.now) (body_in (seen_function_node function.entry)))) ≡ Some d) }
+    ensures goes_on { OnOk result (option_or (stop_among (sites_in (seen_function_node function.entry)))
+        (option_or (first_stop (seen names.now) (params_in (seen_function_node function.entry)))
+        (stop_in_body (seen names.now) (body_in (seen_function_node function.entry)))) ≡ None) }
+    ensures stopped { IfErr result (λ e. (d : Said) → e ≡ Stop.Diagnostic d
+        → option_or (stop_among (sites_in (seen_function_node function.entry)))
+        (option_or (first_stop (seen names.now) (params_in (seen_function_node function.entry)))
+        (stop_in_body (seen names.now) (body_in (seen_function_node function.entry)))) ≡ Some d) }
 {
     find_context_identifiers(alloc, &function, names.resolver, index)?;
     look_inside(alloc, names, params_of(function).tree, body)
@@ -354,7 +369,8 @@ fn look_for_stops(
     requires index { index.now ≡ sites_in (seen_function_node function) }
     requires body { syntax body.now ≡ body_in (seen_function_node function) }
     ensures goes_on { OnOk result (stop_of (seen names.now) (seen_function_node function.entry) ≡ None) }
-    ensures stopped { IfErr result (λ e. (d : Said) → e ≡ Stop.Diagnostic d → stop_of (seen names.now) (seen_function_node function.entry) ≡ Some d) }
+    ensures stopped { IfErr result (λ e. (d : Said) → e ≡ Stop.Diagnostic d
+        → stop_of (seen names.now) (seen_function_node function.entry) ≡ Some d) }
 {
     match this_in(params_of(function).tree) {
         Some(span) => Err(Stop::Diagnostic(Diagnostic::at(alloc, Row::S2, "this", span)?)),
@@ -389,13 +405,20 @@ pub fn lower(
     requires spans { KnowsSpans (seen names.now) names.now.resolver.now.semantic.now.bindings.symbols (seen_function_node function) }
     requires room { (tables : FunctionTables) → HasRoom (begun_by env.old tables) (share (nodes (seen_function_node function))) }
     ensures goes_on { OnOk result (stop_of (seen names.now) (seen_function_node function.entry) ≡ None) }
-    ensures stopped { IfErr result (λ e. (d : Said) → e ≡ Stop.Diagnostic d → stop_of (seen names.now) (seen_function_node function.entry) ≡ Some d) }
-    ensures refused { OnOk result (Records (refusals_of (seen names.now) (seen_function_node function.entry)) env.old.diagnostics env.new.diagnostics) }
+    ensures stopped { IfErr result (λ e. (d : Said) → e ≡ Stop.Diagnostic d
+        → stop_of (seen names.now) (seen_function_node function.entry) ≡ Some d) }
+    ensures refused { OnOk result (Records (refusals_of (seen names.now) (seen_function_node function.entry)) env.old.diagnostics
+        env.new.diagnostics) }
     ensures skip { OnOk result (env.new.skip ≡ (env.old.skip || has_using (body_in (seen_function_node function.entry)))) }
     ensures closed { IfOk result (λ f. IsClosed f.body) }
-    ensures same_runs { IfOk result (λ f. refusals_of (seen names.now) (seen_function_node function.entry) ≡ [] → has_using (body_in (seen_function_node function.entry)) ≡ false → (scene : Scene) (world : World) → IsSceneOf (seen names.now) env.new.pairs scene world → SameRuns scene (seen_function_node function.entry) world f env.new.pairs) }
-    ensures never_stuck { IfOk result (λ f. refusals_of (seen names.now) (seen_function_node function.entry) ≡ [] → has_using (body_in (seen_function_node function.entry)) ≡ false → (scene : Scene) (world : World) → IsSceneOf (seen names.now) env.new.pairs scene world → NeverStuck world f env.new.pairs) }
-    ensures held { IfOk result (λ f. refusals_of (seen names.now) (seen_function_node function.entry) ≡ [] → HoldsNodes (seen names.now) (seen_function_node function.entry) f) }
+    ensures same_runs { IfOk result (λ f. refusals_of (seen names.now) (seen_function_node function.entry) ≡ []
+        → has_using (body_in (seen_function_node function.entry)) ≡ false → (scene : Scene) (world : World)
+        → IsSceneOf (seen names.now) env.new.pairs scene world → SameRuns scene (seen_function_node function.entry) world f env.new.pairs) }
+    ensures never_stuck { IfOk result (λ f. refusals_of (seen names.now) (seen_function_node function.entry) ≡ []
+        → has_using (body_in (seen_function_node function.entry)) ≡ false → (scene : Scene) (world : World)
+        → IsSceneOf (seen names.now) env.new.pairs scene world → NeverStuck world f env.new.pairs) }
+    ensures held { IfOk result (λ f. refusals_of (seen names.now) (seen_function_node function.entry) ≡ []
+        → HoldsNodes (seen names.now) (seen_function_node function.entry) f) }
     ensures numbered { IfOk result (λ f. IsNumbered f.instructions f.body.blocks) }
     ensures linked { IfOk result (λ f. IsLinked f) }
     ensures functions { OnOk result (env.new.functions ≡ env.old.functions) }
@@ -414,16 +437,20 @@ pub fn lower(
     // The identifiers of pairs are named for their symbols. Each parameter stands at its place; the identifier of one that is a name has
     // the span of its last declaration. The notation has the pairs.
     ensures pairs { OnOk result (ArePairs (seen names.now) env.new.identifiers env.new.pairs) }
-    ensures given { IfOk result (λ f. HasParams (seen names.now) (λ symbol before. span_behind_body (seen names.now) symbol (body_in (seen_function_node function.entry)) before) env.new.identifiers env.new.pairs (params_in (seen_function_node function.entry)) f.params) }
+    ensures given { IfOk result (λ f. HasParams (seen names.now)
+        (λ symbol before. span_behind_body (seen names.now) symbol (body_in (seen_function_node function.entry)) before)
+        env.new.identifiers env.new.pairs (params_in (seen_function_node function.entry)) f.params) }
     ensures paired { OnOk result (AreWritablePairs env.new.pairs) }
 
     // Places name identifiers that were made, and the notation has the listing of what a small function is lowered to.
     ensures places { IfOk result (λ f. HasKnownPlaces (length env.new.identifiers) f) }
     ensures writable { IfOk result (λ f. IsSmallTree (seen_function_node function.entry) → IsWritable (listed_function f)) }
-    ensures known { OnOk result (IsSmallTree (seen_function_node function.entry) → AreWritableIdentifiers env.old.identifiers → AreWritableIdentifiers env.new.identifiers) }
+    ensures known { OnOk result (IsSmallTree (seen_function_node function.entry) → AreWritableIdentifiers env.old.identifiers
+        → AreWritableIdentifiers env.new.identifiers) }
 
     // Each span is that of a node of the function, or absent.
-    ensures spanned { IfOk result (λ f. AreSpannedIdentifiers (IsSpanOf (seen_function_node function.entry)) env.old.identifiers → IsSpanned (seen_function_node function.entry) f env.new.identifiers) }
+    ensures spanned { IfOk result (λ f. AreSpannedIdentifiers (IsSpanOf (seen_function_node function.entry)) env.old.identifiers
+        → IsSpanned (seen_function_node function.entry) f env.new.identifiers) }
 {
     let parts = parts_of(function);
     let body = body_tree(parts.body);

@@ -1,16 +1,5 @@
-//! Statements and functions to graphs.
+//! Functions to graphs: parameters, and the walk over a whole function.
 #![tactic(auto)]
 
-mod case_test;
-mod declaration;
 pub mod function;
-mod heads;
-mod jumps;
-mod loops;
 mod params;
-mod pattern;
-mod pattern_items;
-mod statement;
-mod switch;
-mod throw;
-mod try_statement;

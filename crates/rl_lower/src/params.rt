@@ -4,7 +4,7 @@ ghost use Rattle.std.specs.Prelude.{◌≡◌, ◌+◌, true, IfOk, IfErr, map};
 ghost use Rattle.rl_ast.specs.BindingViews.{seen_binding_identifier};
 ghost use Rattle.rl_builder.specs.Builder.{state_of};
 ghost use Rattle.rl_grammar.specs.Fields.{maybe};
-ghost use Rattle.rl_lower.specs.Patterns.{LowersParam, LowersRestParam};
+ghost use Rattle.rl_lower.specs.Params.{LowersParam, LowersRestParam};
 ghost use Rattle.rl_lowered.specs.Lowered.{LoweredParams};
 ghost use Rattle.rl_lowered.specs.Named.{IsNamed};
 ghost use Rattle.rl_lowered.specs.Promised.{HasRoom, share};
@@ -13,8 +13,6 @@ ghost use Rattle.rl_promises.specs.Lowerable.{AreLowerable, DeclaresFree, IsLowe
 ghost use Rattle.rl_promises.specs.Patterns.{takes_apart};
 ghost use Rattle.rl_syntax.specs.Syntax.{Node, Absent, Then, End, nodes, nodes_of, pieces_of, syntax};
 
-use crate::declaration::resolve_declared;
-use crate::pattern::lower_pattern;
 use rl_ast::binding::{
     BindingIdentifier, BindingPattern, binding_identifier_view, binding_pattern_view,
 };
@@ -30,6 +28,8 @@ use rl_hir::instruction::{InstructionKind, Place};
 use rl_lower_expressions::target::lower_default;
 use rl_lower_parts::graph_builder::GraphBuilder;
 use rl_lower_parts::promoted::make_promoted;
+use rl_lower_patterns::declaration::resolve_declared;
+use rl_lower_patterns::pattern::lower_pattern;
 use rl_names::names::FunctionNames;
 use rl_syntax::numbered::At;
 use rl_syntax::word::Word;
@@ -46,7 +46,9 @@ fn lower_named<U: ReadsUnit>(
     requires free { DeclaresFree (seen names.now) ((seen names.now).declared bind.now.at.id.0) }
     requires room { HasRoom (state_of U.tables builder.old) 2 }
     ensures same_reference { builder.new.env.ghost_name ≡ builder.old.env.ghost_name }
-    ensures lowered { IfOk result (λ place. LowersParam (seen names.now) (Node at Word.Param (Then (seen_binding_identifier bind.now) (Then Absent End))) (Param.Place place) (state_of U.tables builder.old) (state_of U.tables builder.new)) }
+    ensures lowered { IfOk result (λ place. LowersParam (seen names.now)
+        (Node at Word.Param (Then (seen_binding_identifier bind.now) (Then Absent End))) (Param.Place place)
+        (state_of U.tables builder.old) (state_of U.tables builder.new)) }
     ensures memory { IfErr result (λ e. e ≡ Stop.OutOfMemory) }
 {
     let identifier = resolve_declared(builder, names, bind)?;
@@ -69,7 +71,9 @@ fn lower_apart<U: ReadsUnit>(
     requires may { IsLowerable (seen names.now) (syntax pattern.tree.now) }
     requires room { HasRoom (state_of U.tables builder.old) (share (nodes (syntax pattern.tree.now) + 1)) }
     ensures same_reference { builder.new.env.ghost_name ≡ builder.old.env.ghost_name }
-    ensures lowered { IfOk result (λ place. LowersParam (seen names.now) (Node at Word.Param (Then (syntax pattern.entry.tree.now) (Then Absent End))) (Param.Place place) (state_of U.tables builder.old) (state_of U.tables builder.new)) }
+    ensures lowered { IfOk result (λ place. LowersParam (seen names.now)
+        (Node at Word.Param (Then (syntax pattern.entry.tree.now) (Then Absent End))) (Param.Place place)
+        (state_of U.tables builder.old) (state_of U.tables builder.new)) }
     ensures memory { IfErr result (λ e. e ≡ Stop.OutOfMemory) }
 {
     let place = make_promoted(alloc, builder, at.span)?;
@@ -89,9 +93,12 @@ fn lower_defaulted<U: ReadsUnit>(
 ) -> Result<Place, Stop>
     requires names { IsNamed (seen names.now) (state_of U.tables builder.old) }
     requires may { IsLowerable (seen names.now) (syntax pattern.tree.now) × IsLowerable (seen names.now) (syntax default.tree.now) }
-    requires room { HasRoom (state_of U.tables builder.old) (share (nodes (syntax pattern.tree.now) + nodes (syntax default.tree.now) + 1)) }
+    requires room { HasRoom (state_of U.tables builder.old)
+        (share (nodes (syntax pattern.tree.now) + nodes (syntax default.tree.now) + 1)) }
     ensures same_reference { builder.new.env.ghost_name ≡ builder.old.env.ghost_name }
-    ensures lowered { IfOk result (λ place. LowersParam (seen names.now) (Node at Word.Param (Then (syntax pattern.entry.tree.now) (Then (syntax default.entry.tree.now) End))) (Param.Place place) (state_of U.tables builder.old) (state_of U.tables builder.new)) }
+    ensures lowered { IfOk result (λ place. LowersParam (seen names.now)
+        (Node at Word.Param (Then (syntax pattern.entry.tree.now) (Then (syntax default.entry.tree.now) End))) (Param.Place place)
+        (state_of U.tables builder.old) (state_of U.tables builder.new)) }
     ensures memory { IfErr result (λ e. e ≡ Stop.OutOfMemory) }
 {
     let place = make_promoted(alloc, builder, at.span)?;
@@ -112,7 +119,8 @@ fn lower_parameter<U: ReadsUnit>(
     requires may { IsLowerable (seen names.now) (syntax parameter.tree.now) }
     requires room { HasRoom (state_of U.tables builder.old) (share (nodes (syntax parameter.tree.now))) }
     ensures same_reference { builder.new.env.ghost_name ≡ builder.old.env.ghost_name }
-    ensures lowered { IfOk result (λ place. LowersParam (seen names.now) (syntax parameter.entry.tree.now) (Param.Place place) (state_of U.tables builder.old) (state_of U.tables builder.new)) }
+    ensures lowered { IfOk result (λ place. LowersParam (seen names.now) (syntax parameter.entry.tree.now) (Param.Place place)
+        (state_of U.tables builder.old) (state_of U.tables builder.new)) }
     ensures memory { IfErr result (λ e. e ≡ Stop.OutOfMemory) }
 {
     let parameter = formal_parameter_view(parameter);
@@ -141,7 +149,8 @@ fn lower_rest<U: ReadsUnit>(
     requires may { IsLowerable (seen names.now) (syntax rest.tree.now) }
     requires room { HasRoom (state_of U.tables builder.old) (share (nodes (syntax rest.tree.now))) }
     ensures same_reference { builder.new.env.ghost_name ≡ builder.old.env.ghost_name }
-    ensures lowered { IfOk result (λ place. LowersRestParam (seen names.now) (syntax rest.entry.tree.now) (Param.Spread place) (state_of U.tables builder.old) (state_of U.tables builder.new)) }
+    ensures lowered { IfOk result (λ place. LowersRestParam (seen names.now) (syntax rest.entry.tree.now) (Param.Spread place)
+        (state_of U.tables builder.old) (state_of U.tables builder.new)) }
     ensures memory { IfErr result (λ e. e ≡ Stop.OutOfMemory) }
 {
     let rest = binding_rest_element_view(rest);
@@ -160,10 +169,13 @@ pub(crate) fn lower_parameters<U: ReadsUnit>(
     parameters: FormalParameters<'_>,
 ) -> Result<List<Param>, Stop>
     requires names { IsNamed (seen names.now) (state_of U.tables builder.old) }
-    requires may { AreLowerable (seen names.now) (pieces_of (map syntax parameters.items.trees.now)) × IsLowerable (seen names.now) (maybe parameters.rest (λ t. syntax t.tree.now)) }
-    requires room { HasRoom (state_of U.tables builder.old) (share (nodes_of (pieces_of (map syntax parameters.items.trees.now)) + nodes (maybe parameters.rest (λ t. syntax t.tree.now)))) }
+    requires may { AreLowerable (seen names.now) (pieces_of (map syntax parameters.items.trees.now)) × IsLowerable (seen names.now)
+        (maybe parameters.rest (λ t. syntax t.tree.now)) }
+    requires room { HasRoom (state_of U.tables builder.old)
+        (share (nodes_of (pieces_of (map syntax parameters.items.trees.now)) + nodes (maybe parameters.rest (λ t. syntax t.tree.now)))) }
     ensures same_reference { builder.new.env.ghost_name ≡ builder.old.env.ghost_name }
-    ensures lowered { IfOk result (λ params. LoweredParams (seen names.now) (pieces_of (map syntax parameters.entry.items.trees.now)) (maybe parameters.entry.rest (λ t. syntax t.tree.now)) (state_of U.tables builder.old) (state_of U.tables builder.new) params) }
+    ensures lowered { IfOk result (λ params. LoweredParams (seen names.now) (pieces_of (map syntax parameters.entry.items.trees.now))
+        (maybe parameters.entry.rest (λ t. syntax t.tree.now)) (state_of U.tables builder.old) (state_of U.tables builder.new) params) }
     ensures memory { IfErr result (λ e. e ≡ Stop.OutOfMemory) }
 {
     let mut params = List::new(alloc);

@@ -3,8 +3,7 @@ use Rattle.rl_ast.specs.FunctionViews.{seen_arrow_body}
 use Rattle.rl_builder.specs.Builder.{state_of}
 use Rattle.rl_names.specs.Seen.{seen}
 use Rattle.rl_syntax.specs.Syntax.{Pieces, pieces_of, syntax}
-use Rattle.rl_lower.proofs.LoopDerivations.{body_may}
-use Rattle.rl_lower.proofs.StatementDerivations.{reserved_named, statements_body_ok, value_body}
+use Rattle.rl_lower.proofs.BodyDerivations.{body_may, reserved_named, statements_body_ok, value_body}
 use Rattle.rl_lower.proofs.function.lower_body.Goals as goal
 
 same_ok : {X E : Type 0} (x y : X) → ◌≡◌ {A = Result X E} (Ok x) (Ok y) → x ≡ y

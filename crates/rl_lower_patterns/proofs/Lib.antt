@@ -1,0 +1,3 @@
+pub mod DeclarationDerivations
+pub mod ItemDerivations
+pub mod PatternDerivations
