@@ -388,9 +388,10 @@ fn mark_using(env: &mut Environment, body: &Numbered)
 }
 
 /// Lowers a function (`lower`) that is covered, each node of it, has a body, and keeps the rule on chains. The stops are looked for
-/// before anything is lowered. The diagnostics of refused nodes are appended to the environment's; if there is none, the graph has the
-/// function's traces. A declaration by `using` marks the unit to be skipped. On `Stop::Diagnostic` a stop row applies to the function,
-/// and on `Stop::OutOfMemory` an allocation failed; of the environment nothing is promised then.
+/// before anything is lowered. The diagnostics of refused nodes are appended to the environment's. A declaration by `using` marks the
+/// unit to be skipped. Where no node is refused and none declares by `using`, the graph has the function's traces. On
+/// `Stop::Diagnostic` a stop row applies to the function, and on `Stop::OutOfMemory` an allocation failed; of the environment nothing
+/// is promised then.
 pub fn lower(
     alloc: Global,
     function: FunctionNode<'_>,

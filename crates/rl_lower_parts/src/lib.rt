@@ -1,5 +1,5 @@
-//! What the walks over expressions and statements share, and what calls neither: temporaries, spans, names, shapes of expressions, texts of
-//! templates, expressions that move, and the items of targets that are patterns.
+//! Calls that the walks over expressions and statements share, and that call neither: temporaries, spans, names, shapes of expressions,
+//! texts of templates, expressions that move, and the items of targets that are patterns.
 #![tactic(auto)]
 
 pub mod graph_builder;

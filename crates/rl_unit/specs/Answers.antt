@@ -23,13 +23,13 @@ use Rattle.rl_unit.specs.declared.run.Status.{Status}
 use Rattle.rl_unit.specs.declared.run.Status.TheVariants.{Done, Reported, Malformed, TooLarge, ReadFault, WriteFault, OutOfMemory, Usage}
 use Rattle.rl_hir.specs.declared.function.Lowered.{Lowered}
 
--- The unit keeps the rules, its marked function is covered, and no row applies to that.
+-- The unit keeps the rules, its marked function is covered, no row applies to that, and it is not skipped.
 pub record IsAccepted (u : Syntax) : Type 0 where
   pub rules : least_broken u ≡ None
   pub covered : pending u ≡ None
   pub supported : IsSupported (names_of u) (marked u)
 
--- The unit keeps the rules, its marked function is covered, and a row applies to that.
+-- The unit keeps the rules, its marked function is covered, and a row applies to that or it is skipped.
 pub record MeetsRow (u : Syntax) : Type 0 where
   pub rules : least_broken u ≡ None
   pub covered : pending u ≡ None
@@ -132,7 +132,7 @@ pub record IsPendingReport (u : Syntax) (text : List ℕ) : Type 0 where
   pub uncovered : IsUncovered u
   pub written : text ≡ pending_line uncovered.node
 
--- A row applies to the unit, and the text is its report.
+-- A row applies to the unit or it is skipped, and the text is its report.
 pub record IsRowReport (u : Syntax) (text : List ℕ) : Type 0 where
   pub row : MeetsRow u
   pub written : IsRowText (stop_of (names_of u) (marked u)) (refusals_of (names_of u) (marked u)) text

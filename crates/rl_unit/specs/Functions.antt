@@ -48,7 +48,7 @@ pub record MayLower (names : Names) (f : Syntax) : Type 0 where
   pub fits : is_function f ≡ true
   pub small : IsSmallTree f
 
--- The result of lowering a function to which no row applies.
+-- The result of lowering a function to which no row applies, and which is not skipped.
 pub record IsResultOf (names : Names) (f : Syntax) (l : Lowered) : Type 0 where
   pub supported : IsSupported names f
   pub main : (scene : Scene) → IsSceneOf names l.pairs scene (world_in l l.function (graphs l.inner))

@@ -31,7 +31,8 @@ use std::{env, io};
 pub enum Status {
     /// The listing of the result was written.
     Done,
-    /// The lowering does not cover a node of the marked function, or a row applies to it, and the report was written.
+    /// The lowering does not cover a node of the marked function, a row applies to that, or it is skipped. The report was
+    /// written.
     Reported,
     /// The bytes are within the limits and spell no unit, or one that breaks a rule. Nothing was written.
     Malformed,
@@ -108,10 +109,10 @@ pub fn is_command(words: &[String]) -> bool
 /// A unit that was read and lowered.
 #[derive(Drop)]
 pub enum Outcome {
-    /// No row applies to the marked function: its result.
+    /// No row applies to the marked function, and it is not skipped: its result.
     Lowered(Lowered),
-    /// The lowering does not cover a node of the marked function, or a row applies to it: the lines of the report, as the program
-    /// writes them.
+    /// The lowering does not cover a node of the marked function, a row applies to that, or it is skipped: the lines of the
+    /// report, as the program writes them.
     Reported(Vec<u8>),
 }
 
