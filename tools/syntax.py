@@ -420,7 +420,7 @@ def files():
            "crates/rl_grammar/src/kind.rt": kind_file(), "crates/rl_grammar/src/expression_rules.rt": rules_files()[0], "crates/rl_grammar/src/rules.rt": rules_files()[1],
            "crates/rl_grammar/src/sort.rt": sort_file(),
            "crates/rl_grammar/specs/Rules.antt": rules_spec(), "crates/rl_grammar/proofs/FewFields.antt": rules_proof(),
-           "crates/rl_promises/src/covered_words.rt": covered_file(), "crates/rl_promises/specs/CoveredWords.antt": covered_spec(), "docs/NOTATION.md": page("docs/NOTATION.md", {"grammar": notation_tables(), "covered": covered_table()}),
+           "crates/rl_covered/src/covered_words.rt": covered_file(), "crates/rl_promises/specs/CoveredWords.antt": covered_spec(), "docs/NOTATION.md": page("docs/NOTATION.md", {"grammar": notation_tables(), "covered": covered_table()}),
            "README.md": page("README.md", {"covered": covered_table()})}
     for module in GRAMMAR.modules:
         if views_of(module):

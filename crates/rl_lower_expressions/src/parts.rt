@@ -26,6 +26,7 @@ use rl_base::row::Row;
 use rl_base::stop::Stop;
 use rl_base::text::Text;
 use rl_builder::unit_tables::ReadsUnit;
+use rl_forms::outs::is_known_key;
 use rl_grammar::sort::{
     ArgumentTree, ArgumentTrees, ArrayElementTree, ArrayElementTrees, ExpressionTree,
     ExpressionTrees, ObjectPropertyTree, ObjectPropertyTrees, PropertyKeyTree,
@@ -36,7 +37,6 @@ use rl_lower_parts::shape::is_computed;
 use rl_lower_parts::span::span_of;
 use rl_lower_parts::temporary::refuse;
 use rl_names::names::FunctionNames;
-use rl_promises::outs::is_known_key;
 use rl_syntax::numbered::At;
 use rl_syntax::word::Word;
 use rl_text::number::parse_number;

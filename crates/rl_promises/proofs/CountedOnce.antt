@@ -421,7 +421,7 @@ module _ (names : Names) (key : Counted) where
       inr (omega (arith, first, later))
   parts_none at _ parts from placed same = inl refl
 
-  -- So many nodes of the tree have the counted instruction, which ends in the tree.
+  -- `times` nodes of the tree have the counted instruction `key`, which ends in the tree.
   record IsTallied (times : ℕ) (s : Syntax) (from : Position) : Type 0 where
     ends : EndsIn s from key
     count : tallied names key s ≡ times

@@ -5,9 +5,7 @@ pub mod AlikeCalls
 pub mod AlikeExpressions
 pub mod AlikeParams
 pub mod AlikePatterns
-pub mod BodyStopping
 pub mod CalmTrees
-pub mod CaseStopping
 mod ChainExamples
 pub mod CountedCode
 pub mod CountedLives
@@ -28,8 +26,6 @@ pub mod HeldOnce
 pub mod InnerScopes
 pub mod KeptChains
 pub mod KeptVariables
-pub mod Least
-pub mod LeavingOut
 pub mod LocalVariables
 mod LoopExamples
 pub mod LoopHeads
@@ -43,7 +39,6 @@ pub mod ParameterDeclarations
 pub mod ParameterSites
 pub mod ParameterUses
 mod PatternExamples
-pub mod PatternForms
 pub mod PlainNames
 pub mod Quiet
 pub mod ReadNames
@@ -54,14 +49,10 @@ pub mod RelatedStores
 mod RowExamples
 pub mod Rounds
 pub mod SetStores
-pub mod Shaping
-pub mod Skipping
 pub mod SmallNames
 pub mod SteadyTargets
 pub mod SteadyTests
-pub mod Stopping
 mod SwitchExamples
-pub mod TargetStopping
 pub mod ToldApart
 pub mod Unheld
 pub mod Unwrapped

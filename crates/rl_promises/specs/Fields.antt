@@ -80,8 +80,8 @@ pub record IsUnnamed (identifiers : List Identifier) (span : Span) (p : Place) :
   pub unnamed : name_at identifiers p.identifier.0 ≡ None
 
 -- Each of the parameters in a graph is that of its node, in order: a name has the identifier that its symbol is paired with, and a pattern,
--- a parameter with a default and the rest have temporaries. In the end the identifier of a symbol has the span `behind symbol before`,
--- where `before` is that of its name.
+-- a parameter with a default and the rest have temporaries. In the end the identifier of a symbol has the span `behind symbol before`;
+-- `before` is the span of its name.
 pub data AreParams (names : Names) (behind : (symbol : ℕ) → (before : Span) → Span) (identifiers : List Identifier) (pairs : List Pair)
     : (params : Pieces) → (rest : Syntax) → List Param → Type 0 where
   NoParam : AreParams names behind identifiers pairs End Absent []

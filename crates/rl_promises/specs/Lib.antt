@@ -17,7 +17,6 @@ pub mod PatternForms
 pub mod Patterns
 pub mod Rebound
 pub mod Rows
-pub mod SeenStops
 pub mod Size
 pub mod Spans
 pub mod StopForms

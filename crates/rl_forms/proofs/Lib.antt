@@ -1,0 +1,3 @@
+pub mod LeavingOut
+pub mod PatternForms
+pub mod Shaping
