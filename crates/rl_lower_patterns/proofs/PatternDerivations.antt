@@ -17,15 +17,16 @@ use Rattle.rl_hir.specs.declared.instruction.InstructionValue.TheVariants as val
 use Rattle.rl_hir.specs.declared.instruction.Pattern.{Pattern}
 use Rattle.rl_hir.specs.declared.instruction.Place.{Place}
 use Rattle.rl_lower_patterns.specs.Declarators.{IsMet}
-use Rattle.rl_lower_patterns.specs.Patterns.{AreLowerableLeft, HasLeftRoom, HasPatternRoom, all_left, seen_part}
+use Rattle.rl_lower_patterns.specs.Patterns.{AreLowerableLeft, HasPatternRoom, all_left, seen_part}
 use Rattle.rl_lower_patterns.specs.declared.pattern_items.LeftPattern.{LeftPattern}
 use Rattle.rl_lower_patterns.specs.declared.pattern_items.PatternPart.{PatternPart}
 use Rattle.rl_lower_patterns.specs.declared.pattern_items.PatternPart.TheVariants as part
 use Rattle.rl_lower_parts.proofs.TargetTrees.{node_counts}
-use Rattle.rl_lower_parts.specs.Patterns.{TakesDefault}
+use Rattle.rl_lower_parts.specs.Patterns.{HasLeftRoom, TakesDefault}
 use Rattle.rl_lowered.proofs.ItemSizes.{bound_size, item_nodes}
-use Rattle.rl_lowered.proofs.Names.{bound_names, items_names, names_value, pattern_names}
-use Rattle.rl_lowered.proofs.Sizes.{left_size, pattern_size}
+use Rattle.rl_lowered.proofs.Names.{items_names, names_value}
+use Rattle.rl_lowered.proofs.Sizes.{pattern_size}
+use Rattle.rl_lowered.proofs.Told.{told_pattern}
 use Rattle.rl_lowered.specs.Forms.{BoundProperty, Element, IsAnnotation, IsItem}
 use Rattle.rl_lowered.specs.Items as items
 use Rattle.rl_lowered.specs.Items.{BoundItems, IsBinding, Later, destructured, form_piece, met, variable_at}
@@ -42,14 +43,6 @@ use Rattle.rl_syntax.specs.declared.numbered.At.{At}
 use Rattle.rl_syntax.specs.declared.word.Word.{Word}
 use Rattle.rl_syntax.specs.declared.word.Word.TheVariants as word
 use Rattle.rl_syntax.specs.Syntax.{Syntax, Node, Listed, Said, Pieces, End, Then, nodes, nodes_of, span_of, syntax}
-
-pub told_pattern : {names : Names} {again : Bool} {k : InstructionKind} {at : Span} {value : Place} {e : Syntax} {s t : State} {p : Place}
-    → LoweredPattern names again k at value e s t p → LowersPattern names again k at value e s t p
-told_pattern l = record { by = l; named = (pattern_names l).named; size = omega (arith, pattern_size l) }
-
-pub told_bound : {names : Names} {again : Bool} {k : InstructionKind} {later : List Later} {s t : State}
-    → LoweredBound names again k later s t → LowersBound names again k later s t
-told_bound l = record { by = l; named = (bound_names l).named; size = omega (arith, left_size l) }
 
 -- Nodes.
 

@@ -1,5 +1,5 @@
 -- The parts of binding patterns that the walk holds between two instructions.
-use Rattle.std.specs.Prelude.{◌≡◌, ℕ, ◌+◌, ◌*◌, ◌<◌, ◌≤◌, ◌^◌, ◌++◌, Bool, true, false, Option, Some, None, List, [], ◌∷◌, length, map}
+use Rattle.std.specs.Prelude.{◌≡◌, ℕ, ◌+◌, ◌<◌, ◌≤◌, ◌^◌, ◌++◌, Bool, true, false, Option, Some, None, List, [], ◌∷◌, map}
 use Rattle.rl_ast.specs.BindingViews.{seen_binding_identifier}
 use Rattle.rl_ast.specs.declared.binding.BindingIdentifier.{BindingIdentifier}
 use Rattle.rl_base.specs.declared.ids.SymbolId.{SymbolId}
@@ -13,7 +13,7 @@ use Rattle.rl_lower_patterns.specs.declared.pattern_items.PatternPart.TheVariant
 use Rattle.rl_lowered.specs.Forms.{IsAnnotation}
 use Rattle.rl_lowered.specs.Items.{BoundItems, Later, caught, met, promoted, variable_at}
 use Rattle.rl_lowered.specs.Named.{IsFound, IsNamed}
-use Rattle.rl_lowered.specs.Promised.{nodes_left, share}
+use Rattle.rl_lowered.specs.Promised.{share}
 use Rattle.rl_names.specs.Names.{Names}
 use Rattle.rl_promises.specs.Lowerable.{IsLowerable}
 use Rattle.rl_promises.specs.Patterns.{is_ahead, takes_apart}
@@ -36,10 +36,6 @@ all_left left = map seen_left left
 -- The room that a pattern wants. A pattern leaves some of its share, for the temporary that it takes its piece from.
 abbrev pub HasPatternRoom : State → (pattern : Syntax) → Type 0
 HasPatternRoom s pattern = size_of s + share (nodes pattern) < 2 ^ 31 + 40
-
--- As `HasPatternRoom`, for parts that were left.
-abbrev pub HasLeftRoom : State → List Later → Type 0
-HasLeftRoom s later = size_of s + share (nodes_left later) < 2 ^ 31 + 40 * length later
 
 -- As `IsLowerable`, for parts that were left.
 abbrev pub AreLowerableLeft : Names → List Later → Type 0

@@ -3,7 +3,8 @@
 ghost use Rattle.std.specs.Prelude.{◌≡◌, OnOk, IfOk, IfErr};
 ghost use Rattle.rl_ast.specs.BindingViews.{seen_binding_identifier};
 ghost use Rattle.rl_builder.specs.Builder.{state_of};
-ghost use Rattle.rl_lower_patterns.specs.Patterns.{AreLowerableLeft, HasLeftRoom, HasPatternRoom, all_left, seen_part};
+ghost use Rattle.rl_lower_parts.specs.Patterns.{HasLeftRoom};
+ghost use Rattle.rl_lower_patterns.specs.Patterns.{AreLowerableLeft, HasPatternRoom, all_left, seen_part};
 ghost use Rattle.rl_lowered.specs.Named.{IsNamed};
 ghost use Rattle.rl_lowered.specs.Promised.{HasRoom, LowersBound, LowersPattern};
 ghost use Rattle.rl_names.specs.Seen.{seen};

@@ -7,9 +7,10 @@ use Rattle.rl_lower_parts.proofs.Derivations.{grown}
 use Rattle.rl_lower_patterns.proofs.PatternDerivations.{apart_named, apart_room, apart_told, array_may, behind_room, bound_may}
 use Rattle.rl_lower_patterns.proofs.PatternDerivations.{bound_slice, default_may, default_room, defaulted_ok, first_may, first_room}
 use Rattle.rl_lower_patterns.proofs.PatternDerivations.{items_room, left_done, left_fewer, left_next, left_room, left_split, name_room}
-use Rattle.rl_lower_patterns.proofs.PatternDerivations.{no_rest, object_may, others_room, told_bound, viewed_ok}
+use Rattle.rl_lower_patterns.proofs.PatternDerivations.{no_rest, object_may, others_room, viewed_ok}
 use Rattle.rl_lower_patterns.specs.Patterns.{all_left, seen_part}
 use Rattle.rl_lower_patterns.specs.declared.pattern_items.LeftPattern.{LeftPattern}
+use Rattle.rl_lowered.proofs.Told.{told_bound}
 use Rattle.rl_lowered.specs.Items.{BindsArray, BindsObject, destructured}
 use Rattle.rl_lowered.specs.Promised.{nodes_left}
 use Rattle.rl_names.specs.Seen.{seen}

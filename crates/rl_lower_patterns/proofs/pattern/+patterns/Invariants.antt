@@ -1,6 +1,7 @@
 use Rattle.std.proofs.Common.{◌≡◌, ◌+◌, ◌*◌, ◌≤◌, List, drop}
 use Rattle.rl_builder.specs.Builder.{State, state_of}
-use Rattle.rl_lower_patterns.specs.Patterns.{AreLowerableLeft, HasLeftRoom, all_left, seen_part}
+use Rattle.rl_lower_parts.specs.Patterns.{HasLeftRoom}
+use Rattle.rl_lower_patterns.specs.Patterns.{AreLowerableLeft, all_left, seen_part}
 use Rattle.rl_lower_patterns.specs.declared.pattern_items.LeftPattern.{LeftPattern}
 use Rattle.rl_lowered.specs.Lowered.{LoweredBound}
 use Rattle.rl_lowered.specs.Named.{IsNamed}
