@@ -46,10 +46,10 @@ fn is_marked(word: Word, parts: &[Numbered]) -> bool
     }
 }
 
-/// The first marked function of a tree, in the order of the nodes.
+/// The tree of the first marked function of a tree, in the order of the nodes. `None` if no function in it is marked.
 #[cycle(finding)]
 #[tactic(auto, using(rl_syntax::proofs::Layers::by_layer, crate::proofs::MarkedFunctions::finding))]
-fn first_in(tree: &Numbered) -> Option<&Numbered>
+pub fn first_marked(tree: &Numbered) -> Option<&Numbered>
     ensures { option_map (λ t. syntax t.now) result ≡ first (marked_functions (syntax tree.now)) }
 {
     match tree {
@@ -68,14 +68,14 @@ fn first_in(tree: &Numbered) -> Option<&Numbered>
     }
 }
 
-/// As `first_in`, for trees in a row.
+/// As `first_marked`, for trees in a row.
 #[cycle(finding)]
 #[tactic(auto, using(crate::proofs::MarkedFunctions::finding))]
 fn first_among(trees: &[Numbered]) -> Option<&Numbered>
     ensures { option_map (λ t. syntax t.now) result ≡ first (marked_among (pieces_of (map syntax trees.now))) }
 {
     'trees: for tree in trees {
-        if let Some(found) = first_in(tree) {
+        if let Some(found) = first_marked(tree) {
             return Some(found);
         }
     }
@@ -103,7 +103,7 @@ impl Unit {
     pub fn marked_function(&self) -> Option<FunctionNode<'_>>
         ensures { MatchOption result (marked_functions (syntax self.now.tree) ≡ []) (λ f. first (marked_functions (syntax self.now.tree)) ≡ Some (seen_function_node f)) }
     {
-        match first_in(&self.tree) {
+        match first_marked(&self.tree) {
             Some(tree) => Some(function_view(tree)),
             None => None,
         }

@@ -5,7 +5,6 @@
 pub mod assigned;
 pub mod code;
 pub mod lowered;
-pub mod marked;
 pub mod named;
 pub mod numbers;
 pub mod parts;

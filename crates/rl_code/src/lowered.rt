@@ -9,8 +9,8 @@ ghost use Rattle.rl_semantic.specs.Items.{of_item};
 ghost use Rattle.rl_syntax.specs.Syntax.{pieces_of, syntax};
 
 use crate::code::push_tree;
-use crate::marked::first_marked;
 use crate::parts::{function_parts, is_function, is_instantiate, is_no_code};
+use rl_ast::marked::first_marked;
 use rl_ast::unit::Unit;
 use rl_base::error::OutOfMemory;
 use rl_syntax::numbered::Numbered;

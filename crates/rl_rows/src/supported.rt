@@ -10,11 +10,11 @@ ghost use Rattle.rl_syntax.specs.Syntax.{syntax};
 
 use crate::tags::keeps_fbt;
 use crate::walk::has_no_rows;
+use rl_ast::marked::first_marked;
 use rl_ast::unit::Unit;
 use rl_base::error::OutOfMemory;
 use rl_code::code::code_of;
 use rl_code::lowered::lowered_functions;
-use rl_code::marked::first_marked;
 use rl_context::index::IdentifierLocIndex;
 use rl_context::site::Site;
 use rl_row_names::chains::is_whole_chain;

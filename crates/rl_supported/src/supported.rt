@@ -14,13 +14,13 @@ ghost use Rattle.rl_worlds.specs.Units.{IsSemanticOf};
 
 use crate::known::KnownFacts;
 use rl_ast::function_node::FunctionNode;
+use rl_ast::marked::first_marked;
 use rl_ast::unit::Unit;
 use rl_base::error::OutOfMemory;
 use rl_base::stop::Stop;
 use rl_base::text::Text;
 use rl_code::code::at_of;
 use rl_code::lowered::lowered_functions;
-use rl_code::marked::first_marked;
 use rl_code::variables::Variables;
 use rl_facts::unit_facts::UnitFacts;
 use rl_names::names::FunctionNames;

@@ -4,8 +4,8 @@ use Rattle.rl_syntax.specs.Syntax.{pieces_of, syntax}
 use Rattle.rl_ast.specs.Marked.{first, marked_among}
 use Rattle.rl_ast.proofs.marked.+finding.Given as goal
 
-abbrev pub decreases-first_in : goal.decreases-first_in
-decreases-first_in l = size (syntax l.tree.now)
+abbrev pub decreases-first_marked : goal.decreases-first_marked
+decreases-first_marked l = size (syntax l.tree.now)
 
 abbrev pub decreases-first_among : goal.decreases-first_among
 decreases-first_among l = size_of (pieces_of (map syntax l.trees.now))
