@@ -1,15 +1,13 @@
 -- The first name of a pattern, and the stop where a `catch` binds one.
 use Rattle.std.proofs.Common.{◌≡◌, false, unwrap_or, Option, Some, None, List, [], map}
-use Rattle.std.proofs.Common.{ap, sym, refl, ◌∙◌, arith}
+use Rattle.std.proofs.Common.{ap, sym, refl, ◌∙◌}
 use Rattle.std.specs.Option.{option_or}
 use Rattle.rl_base.specs.Diagnostics.{diagnostic_at}
 use Rattle.rl_base.specs.declared.diagnostic.Diagnostic.{Diagnostic}
 use Rattle.rl_base.specs.declared.row.Row.TheVariants as row
 use Rattle.rl_base.specs.declared.span.Span.{Span}
 use Rattle.rl_forms.proofs.PatternForms.{last_smaller, one_smaller}
-use Rattle.rl_promises.specs.PatternForms.{first_name_in}
-use Rattle.rl_promises.specs.PatternForms.{name_of_rest, name_under, stop_of_caught_node}
-use Rattle.rl_promises.specs.PatternForms.{stop_of_pattern}
+use Rattle.rl_promises.specs.PatternForms.{first_name_in, name_of_rest, name_under, stop_of_caught_node, stop_of_pattern}
 use Rattle.rl_promises.specs.Patterns.{first_name, first_name_among, stop_of_caught}
 use Rattle.rl_syntax.specs.Shapes.{is_one, is_three}
 use Rattle.rl_syntax.specs.Syntax.{Syntax, Node, Pieces, End, Then, pieces_of, syntax}
