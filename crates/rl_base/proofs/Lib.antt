@@ -1,3 +1,4 @@
+pub mod Bools
 pub mod ClosedTexts
 pub mod DistinctLists
 pub mod KnownBytes

@@ -3,6 +3,7 @@ use Rattle.std.proofs.Common.{◌≡◌, ◌≢◌, ◌<◌, ◌≤◌, ℕ, zer
 use Rattle.std.proofs.lemmas.List.Folds.{list_any-append}
 use Rattle.std.specs.List.{list_any, position_from}
 use Rattle.std.specs.Option.{unwrap_or}
+use Rattle.rl_base.proofs.Bools.{and_true, or_assoc, or_false}
 use Rattle.rl_bindings.specs.Checks.{marks_of, no_marks, both_marks, marks_or_none, marks_at, add_marks, known_symbol, other_symbol, is_clash, is_share, step, steps, start, lexical_steps}
 use Rattle.rl_bindings.specs.NameRules.{is_lexical, is_param, is_type, is_misplaced, is_lexical_clash, is_repeat, is_type_clash, clashes}
 use Rattle.rl_bindings.specs.SymbolTables.{knows}
@@ -19,10 +20,6 @@ use Rattle.rl_bindings.proofs.Entries.{some_at}
 use Rattle.rl_bindings.proofs.LookUps.{by_test, get_set_same, get_set_other}
 use Rattle.rl_bindings.proofs.SymbolTables.{at_self, at_both, number-same, number-push, position-kept}
 use Rattle.rl_bindings.proofs.SymbolIndices.{number-below}
-
-or_false : (a : Bool) → (a || false) ≡ a
-or_false true = refl
-or_false false = refl
 
 -- A table of the declarations of `before` knows of each place whether one of these stands there.
 pub record Holds (symbols before : List Bound) : Type 0 where
@@ -48,10 +45,6 @@ knows-add symbols b own s n =
     ∙ some_at (is_at own s n) 0 (symbols ++ b ∷ [])
     ∙ list_any-append (is_at own s n) symbols (b ∷ [])
     ∙ (λ i. sym (some_at (is_at own s n) 0 symbols) i || or_false (is_at own s n b) i))
-
-and_true : (a : Bool) → (a && true) ≡ a
-and_true true = refl
-and_true false = refl
 
 holds-step : (symbols before : List Bound) (b : Bound) → Holds symbols before → Holds (add symbols b) (before ++ b ∷ [])
 holds-step symbols before b holds = record {
@@ -348,10 +341,6 @@ module _ (before : List Bound) (f : Found) (b : Bound) (tables : Tables before f
 
   share-now : (step f b).shared ≡ (f.shared || (is_misplaced b || list_any (is_type_clash b) before))
   share-now = ap (λ x. f.shared || x) share-by
-
-or_assoc : (a b c : Bool) → ((a || b) || c) ≡ (a || (b || c))
-or_assoc true b c = refl
-or_assoc false b c = refl
 
 or_share : (f m c d e : Bool) → ((f || (m || c)) || (d || e)) ≡ (f || ((c || d) || (m || e)))
 or_share true m c d e = refl

@@ -1,6 +1,7 @@
 -- Each declaration declares a symbol.
-use Rattle.std.proofs.Common.{◌≡◌, ℕ, Bool, true, false, ◌||◌, is_some, List, [], ◌∷◌, map, All, arith, refl, ap, ◌∙◌}
+use Rattle.std.proofs.Common.{◌≡◌, ℕ, Bool, true, ◌||◌, is_some, List, [], ◌∷◌, map, All, arith, ap, ◌∙◌}
 use Rattle.std.proofs.lemmas.List.Elements.{All-cons}
+use Rattle.rl_base.proofs.Bools.{or_true}
 use Rattle.rl_bindings.specs.SymbolTables.{knows}
 use Rattle.rl_bindings.specs.Symbols.{is_own, is_at, add, add_all, bounds, symbols_of}
 use Rattle.rl_bindings.specs.Tables.{declared_by, declarations_of}
@@ -8,10 +9,6 @@ use Rattle.rl_bindings.specs.declared.event.Bound.{Bound}
 use Rattle.rl_bindings.specs.declared.event.Event.{Event}
 use Rattle.rl_bindings.proofs.Checks.{knows-add}
 use Rattle.rl_bindings.proofs.SymbolTables.{at_self}
-
-or_true : (a : Bool) → (a || true) ≡ true
-or_true true = refl
-or_true false = refl
 
 known_still : (bs symbols : List Bound) (own : Bool) (s n : ℕ) → knows symbols own s n ≡ true → knows (add_all symbols bs) own s n ≡ true
 known_still [] symbols own s n known = known

@@ -3,6 +3,7 @@ use Rattle.std.proofs.Common.{◌≡◌, ◌≤◌, ℕ, ◌+◌, Bool, true, fa
 use Rattle.std.proofs.lemmas.List.Elements.{All-cons}
 use Rattle.std.proofs.lemmas.Slice.Eq.{bytes_eq-Decides}
 use Rattle.std.specs.Str.{bytes_eq}
+use Rattle.rl_base.proofs.Bools.{or_assoc, or_false, or_true}
 use Rattle.rl_base.specs.NameTables.{index_from}
 use Rattle.rl_bindings.specs.Names.{number_of, add_name, add_names, texts, names_in}
 use Rattle.rl_bindings.specs.declared.names.Name.{Name}
@@ -44,18 +45,6 @@ one_name names a b k found_a found_b = one_from 0 names a b k found_a found_b
 choice : (b : Bool) (o : Option ℕ) (n : ℕ) → is_some (if b then Some n else o) ≡ (b || is_some o)
 choice true o n = refl
 choice false o n = refl
-
-or_assoc : (a b c : Bool) → ((a || b) || c) ≡ (a || (b || c))
-or_assoc true b c = refl
-or_assoc false b c = refl
-
-or_true : (a : Bool) → (a || true) ≡ true
-or_true true = refl
-or_true false = refl
-
-or_false : (a : Bool) → (a || false) ≡ a
-or_false true = refl
-or_false false = refl
 
 known_push : (first : ℕ) (names : List Name) (x : Name) (text : List ℕ) → is_some (index_from (λ n. n.text) first (names ++ x ∷ []) text) ≡ (is_some (index_from (λ n. n.text) first names text) || bytes_eq x.text text)
 known_push first [] x text = choice (bytes_eq x.text text) None first ∙ or_false (bytes_eq x.text text)

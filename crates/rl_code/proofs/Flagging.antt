@@ -2,6 +2,7 @@
 use Rattle.std.proofs.Common.{◌≡◌, ◌<◌, ℕ, zero, suc, Bool, true, false, ◌||◌, nat_eq, eqb-true, length, slice_get, slice_set}
 use Rattle.std.proofs.Common.{List, [], ◌∷◌, ◌++◌, refl, sym, ap, ◌∙◌}
 use Rattle.std.proofs.lemmas.Bool.{eqb-false}
+use Rattle.rl_base.proofs.Bools.{or_false, or_true}
 use Rattle.rl_bindings.proofs.LookUps.{by_test, get_set_same, get_set_other}
 use Rattle.rl_code.specs.Flags.{flag_at}
 use Rattle.rl_semantic.specs.Items.{of_item}
@@ -11,14 +12,6 @@ flag_added [] zero = refl
 flag_added [] (suc n) = refl
 flag_added (flag ∷ flags) zero = refl
 flag_added (flag ∷ flags) (suc n) = flag_added flags n
-
-or_true : (b : Bool) → b || true ≡ true
-or_true true = refl
-or_true false = refl
-
-or_false : (b : Bool) → b || false ≡ b
-or_false true = refl
-or_false false = refl
 
 pub eq_swapped : (m n : ℕ) → nat_eq m n ≡ nat_eq n m
 eq_swapped m n = by_test (nat_eq m n)

@@ -6,6 +6,7 @@ use Rattle.std.specs.List.{list_any}
 use Rattle.std.specs.Ordering.{nat_cmp, match_ordering}
 use Rattle.std.specs.declared.cmp.Ordering.{Ordering}
 use Rattle.std.specs.declared.cmp.Ordering.TheVariants.{Less, Equal, Greater}
+use Rattle.rl_base.proofs.Bools.{or_false}
 use Rattle.rl_base.specs.declared.ids.SymbolId.{SymbolId}
 use Rattle.rl_hir.specs.Symbols.{has, added}
 
@@ -16,10 +17,6 @@ same_number a b = grind (arith, nat_tests)
 pub found_members : (symbol : SymbolId) (symbols : List SymbolId) → list_any (is_at (λ other. nat_cmp symbol.0 other.0)) symbols ≡ has symbols symbol
 found_members symbol [] = refl
 found_members symbol (other ∷ symbols) = rw (same_number symbol.0 other.0) (ap (λ b. nat_eq symbol.0 other.0 || b) (found_members symbol symbols))
-
-or_none : (a : Bool) → (a || false) ≡ a
-or_none true = refl
-or_none false = refl
 
 or_behind : (a b : Bool) → (a || b) ≡ (b || a)
 or_behind true true = refl
@@ -41,7 +38,7 @@ equal_number a b other same = grind (arith, nat_tests)
 
 -- A set with one more member has that member, and those that it had.
 pub members_added : (symbols : List SymbolId) (symbol other : SymbolId) → has (added symbols symbol) other ≡ (has symbols other || nat_eq other.0 symbol.0)
-members_added [] symbol other = or_none (nat_eq other.0 symbol.0)
+members_added [] symbol other = or_false (nat_eq other.0 symbol.0)
 members_added (first ∷ symbols) symbol other = by (nat_cmp symbol.0 first.0) refl (members_added symbols symbol other)
   where
     by : (order : Ordering) → nat_cmp symbol.0 first.0 ≡ order → has (added symbols symbol) other ≡ (has symbols other || nat_eq other.0 symbol.0)

@@ -8,6 +8,7 @@ use Rattle.std.specs.String.{string_cmp}
 use Rattle.std.specs.Str.{bytes_eq}
 use Rattle.std.specs.declared.alloc.Global.{Global}
 use Rattle.std.specs.declared.string.String.{String}
+use Rattle.rl_base.proofs.Bools.{or_assoc, or_false}
 use Rattle.rl_lint.specs.Findings.{finding}
 use Rattle.rl_lint.specs.Labels.{has, told_jump, told_labeled, told_node, told_none, told_parts, told_tree, Walked}
 use Rattle.rl_lint.specs.Rules.{is_jump, is_labeled, is_label, refers, refers_among}
@@ -28,17 +29,9 @@ use Rattle.rl_syntax.proofs.Layers.{syntax_node, syntax_list, syntax_text, synta
 abbrev Map : Type 0
 Map = BTreeMap (String Global) Bool
 
-or_false : (b : Bool) → b ≡ (b || false)
-or_false true = refl
-or_false false = refl
-
-or_assoc : (a b c : Bool) → ((a || b) || c) ≡ (a || (b || c))
-or_assoc true b c = refl
-or_assoc false b c = refl
-
 -- Nothing was seen.
 pub walked_none : (out : List Finding) (seen : Map) → Walked out out seen seen [] told_none
-walked_none out seen = record { found_are = sym (append-nil out); seen_are = record { at = λ label. or_false (has seen label) } }
+walked_none out seen = record { found_are = sym (append-nil out); seen_are = record { at = λ label. sym (or_false (has seen label)) } }
 
 -- The findings and the labels of equal trees.
 pub as_tree : (before after : List Finding) (seen later : Map) (t u : Syntax) → t ≡ u
@@ -147,7 +140,7 @@ function_node before after seen at w ps is e =
     same_walk before after seen seen (unused_among ps) (unused_at at w ps) told_none (told_node w ps)
     (no_finding at w ps (function_unlabeled w is))
     (λ label. told_function w label (first_text ps) (refers_among label ps) is)
-    (record { found_are = e; seen_are = record { at = λ label. or_false (has seen label) } })
+    (record { found_are = e; seen_are = record { at = λ label. sym (or_false (has seen label)) } })
 
 pub labeled_node : (before after : List Finding) (seen later : Map) (at : At) (w : Word) (ps : Pieces) (own : List ℕ)
     → is_function_word w ≡ false → is_labeled w ≡ true
@@ -270,7 +263,7 @@ pub going_end : (before now : List Finding) (seen later : Map) (all left : List 
 going_end before now seen later all left none g = record {
   found_are = sym (append-nil now) ∙ ap (λ l. now ++ unused_among (pieces_of (map syntax l))) (sym none) ∙ g.found_are;
   seen_are = record {
-    at = λ label. or_false (has later label) ∙ ap
+    at = λ label. sym (or_false (has later label)) ∙ ap
         (λ l. has later label || refers_among label (pieces_of (map syntax l))) (sym none) ∙ g.seen_are label;
   };
 }
@@ -296,7 +289,7 @@ walked_label before middle after s0 s1 s2 s3 at own ps was is was_is aside walke
   where
     by_test : (b : Bool) (label : List ℕ) → bytes_eq own label ≡ b
         → (if b then was else has s2 label) ≡ (has s0 label || (not b && refers_among label ps))
-    by_test true label is_own = was_is ∙ ap (has s0) ((bytes_eq-Decides own label).0 is_own) ∙ or_false (has s0 label)
+    by_test true label is_own = was_is ∙ ap (has s0) ((bytes_eq-Decides own label).0 is_own) ∙ sym (or_false (has s0 label))
     by_test false label other = walked.seen_are.at label
         ∙ ap (λ b. b || refers_among label ps) (aside label ∙ ap (λ (b : Bool). if b then false else has s0 label) other)
 

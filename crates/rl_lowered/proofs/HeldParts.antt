@@ -4,6 +4,7 @@ use Rattle.std.proofs.Common.{sym}
 use Rattle.std.proofs.Common.{append-nil}
 use Rattle.std.specs.List.{list_any}
 use Rattle.std.specs.Str.{bytes_eq}
+use Rattle.rl_base.proofs.Bools.{and_true}
 use Rattle.rl_base.specs.declared.ids.BlockId.{BlockId}
 use Rattle.rl_base.specs.declared.span.Span.{Span}
 use Rattle.rl_builder.specs.Builder.{State}
@@ -52,10 +53,6 @@ pub data IsHeldAs (word : Option (List ℕ)) (v : InstructionValue) : Type 0 whe
   HeldBy : (text : List ℕ) → word ≡ Some text → counted_word v ≡ Some text → IsHeldAs word v
 
 -- Values are of counted kinds where the words are by which they are counted.
-
-and_true : (b : Bool) → b && true ≡ b
-and_true true = refl
-and_true false = refl
 
 and_false : (b : Bool) → b && false ≡ false
 and_false true = refl

@@ -2,6 +2,7 @@
 use Rattle.std.proofs.Common.{◌≡◌, ℕ, ◌+◌, ◌++◌, ◌||◌, Bool, true, false, if◌then◌else◌, List, [], ◌∷◌, Option, Some, None, Ok, refl}
 use Rattle.std.proofs.Common.{sym, ap, ◌∙◌, is_some, subst, append-nil}
 use Rattle.std.proofs.lemmas.List.{append_assoc}
+use Rattle.rl_base.proofs.Bools.{or_true}
 use Rattle.rl_base.specs.declared.ids.BlockId.{BlockId}
 use Rattle.rl_base.specs.declared.span.Span.{Span}
 use Rattle.rl_base.specs.VariableKinds.{variable_text}
@@ -84,10 +85,6 @@ use Rattle.rl_runs.specs.Moves.{block_id, next_hole, return_of, returned_from}
 use Rattle.rl_syntax.specs.declared.numbered.At.{At}
 use Rattle.rl_syntax.specs.declared.word.Word.TheVariants as word
 use Rattle.rl_syntax.specs.Syntax.{Absent, End, Listed, Node, Pieces, Said, Syntax, Then, span_of}
-
-or_true : (b : Bool) → (b || true) ≡ true
-or_true true = refl
-or_true false = refl
 
 -- A statement with these exits: where it is reached, its live instructions stand in reached blocks, the targets of its jumps are reached,
 -- and so is the handler around it if it acts.

@@ -1,5 +1,5 @@
 -- Blocks that are changed by their places, and blocks that stay.
-use Rattle.std.proofs.Common.{◌≡◌, ℕ, zero, suc, ◌+◌, ◌<◌, inl, inr, Bool, true, false, not, ◌&&◌, ◌||◌, if◌then◌else◌, Option, List, [], ◌∷◌, ◌++◌, length, map, filter, fold, get_or, drop, position, IfSome, slice_get, Some, None, ap, sym, ◌∙◌, refl, subst, arith, add-one, append_assoc, eq-eqb}
+use Rattle.std.proofs.Common.{◌≡◌, ℕ, zero, suc, ◌+◌, ◌<◌, inl, inr, Bool, true, false, not, ◌&&◌, if◌then◌else◌, Option, List, [], ◌∷◌, ◌++◌, length, map, filter, fold, get_or, drop, position, IfSome, slice_get, Some, None, ap, sym, ◌∙◌, refl, subst, arith, add-one, append_assoc, eq-eqb}
 use Rattle.std.specs.List.{list_any}
 use Rattle.std.proofs.Math.Seq.{drop-cons}
 use Rattle.std.specs.Option.{option_to_list}
@@ -7,6 +7,7 @@ use Rattle.std.specs.Map.{keys_of, values_of}
 use Rattle.std.proofs.lemmas.List.Folds.{list_any-append}
 use Rattle.indexmap.proofs.MapLemmas.{Found-position, Missing-position}
 use Rattle.indexmap.specs.IndexSet.{insert_key}
+use Rattle.rl_base.proofs.Bools.{and_true, or_false, or_true}
 use Rattle.rl_base.specs.Distinct.{AreDistinct}
 use Rattle.rl_base.proofs.DistinctLists.{distinct_tail}
 use Rattle.rl_base.specs.declared.ids.BlockId.{BlockId}
@@ -138,18 +139,6 @@ filter_both first second all (p ∷ graph) h = by_head (first p) (second p) refl
     by_head true false e f is rest = rw (is, e, f) rest
     by_head false b e f is rest = rw (is, e) rest
 
-or_false : (b : Bool) → (b || false) ≡ b
-or_false true = refl
-or_false false = refl
-
-or_true : (b : Bool) → (b || true) ≡ true
-or_true true = refl
-or_true false = refl
-
-and_true : (b : Bool) → b ≡ (b && true)
-and_true true = refl
-and_true false = refl
-
 and_false : (b : Bool) → false ≡ (b && false)
 and_false true = refl
 and_false false = refl
@@ -206,7 +195,7 @@ lost_next dead graph lost lost1 alone own tells is =
         rw (hit, same, e) (and_false (not (list_any (same_id p.0) lost)))
     by_alone p false a e same =
         let listed : lost1 ≡ lost = is ∙ ap (λ (b : Bool). if b then insert_key same_id lost dead.fallthrough else lost) a in
-        rw (same, e) (ap (λ (l : List BlockId). not (list_any (same_id p.0) l)) listed ∙ and_true (not (list_any (same_id p.0) lost)))
+        rw (same, e) (ap (λ (l : List BlockId). not (list_any (same_id p.0) l)) listed ∙ sym (and_true (not (list_any (same_id p.0) lost))))
 
     by_listed : (p : Pair) (b : Bool) → alone ≡ b → same_id p.0 dead.fallthrough ≡ false → list_any (same_id p.0) lost1 ≡ list_any (same_id p.0) lost
     by_listed p true a other =
@@ -225,7 +214,7 @@ lost_next dead graph lost lost1 alone own tells is =
         by_alone p (is_alone dead.handler p.1.preds) same_test refl same
     by_id p i false other =
         let other1 : same_id p.0 dead.fallthrough ≡ false = flipped p (same_id p.0 dead.fallthrough) refl other in
-        rw other (ap not (by_listed p alone refl other1) ∙ and_true (not (list_any (same_id p.0) lost)))
+        rw other (ap not (by_listed p alone refl other1) ∙ sym (and_true (not (list_any (same_id p.0) lost))))
 
 -- The steps of the code drop a `try` from the blocks that are kept.
 pub try_dropped : (dead : DeadTry) (graph after last : List Pair) (lost lost1 : List BlockId) (alone : Bool) → HaveOwnIds graph → after ≡ with_changed dead.id (ended_by_goto dead.block) graph

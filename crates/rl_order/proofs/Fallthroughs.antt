@@ -4,6 +4,7 @@ use Rattle.std.proofs.lemmas.List.Folds.{list_any-append}
 use Rattle.std.specs.List.{list_any}
 use Rattle.std.specs.Map.{lookup}
 use Rattle.indexmap.specs.IndexSet.{insert_key}
+use Rattle.rl_base.proofs.Bools.{or_true}
 use Rattle.rl_base.specs.declared.ids.BlockId.{BlockId}
 use Rattle.rl_hir.specs.Blocks.{Pair, block_at, same_id}
 use Rattle.rl_hir.specs.Terminals.{fallthrough, listed_id, successor_ids}
@@ -72,10 +73,6 @@ key_more id key ids h = by_any (list_any (same_id key) ids)
 key_there : (key : BlockId) (ids : List BlockId) → list_any (same_id key) (insert_key same_id ids key) ≡ true
 key_there key ids = by_any (list_any (same_id key) ids) refl
   where
-    or_true : (b : Bool) → (b || true) ≡ true
-    or_true true = refl
-    or_true false = refl
-
     by_any : (b : Bool) → list_any (same_id key) ids ≡ b → list_any (same_id key) (if b then ids else ids ++ key ∷ []) ≡ true
     by_any true e = e
     by_any false e = list_any-append (same_id key) ids (key ∷ []) ∙ rw (same_self key) (or_true (list_any (same_id key) ids))
