@@ -1,5 +1,6 @@
 -- The entries of each scope, and what a scope binds.
 use Rattle.std.proofs.Common.{◌≡◌, ◌<◌, ◌≤◌, ℕ, zero, suc, ◌+◌, Bool, true, false, ◌&&◌, ◌||◌, if◌then◌else◌, cond, true≢false, nat_eq, nat_lt, eqb-true, ltb-true, ltb-false, Option, Some, None, is_some, List, [], ◌∷◌, length, slice_get, replicate, refl, sym, ap, subst, ◌∙◌, arith}
+use Rattle.std.proofs.lemmas.Bool.{and_parts}
 use Rattle.std.specs.List.{list_any, position_from}
 use Rattle.rl_bindings.specs.Machines.{entries_at, entries_before, entry_before, entry_of, larger, count_names, count_scopes}
 use Rattle.rl_bindings.specs.Symbols.{same, is_own, is_at, number_at, option_or, binding}
@@ -106,10 +107,6 @@ has_before symbols s n (suc k) =
 has_here : (symbols : List Bound) (s n : ℕ) → has (entries_at symbols s) n ≡ list_any (is_here s n) symbols
 has_here symbols s n = has_before symbols s n (length symbols) ∙ any_all (is_here s n) symbols
 
-both_right : (a b : Bool) → (a && b) ≡ true → b ≡ true
-both_right true b is = is
-both_right false b is = absurd (true≢false (sym is))
-
 one_of : (a b : Bool) → (a || b) ≡ true → a ≡ false → b ≡ true
 one_of true b is none = absurd (true≢false none)
 one_of false b is none = is
@@ -118,7 +115,7 @@ here-below : (most s n : ℕ) (bs : List Bound) → AreNamed most bs → list_an
 here-below most s n [] within some = absurd (true≢false (sym some))
 here-below most s n (b ∷ bs) within some =
     by_test (is_here s n b)
-    (λ here. subst (λ m. m < most) (eqb-true b.name n (both_right (nat_eq b.scope.0 s) (nat_eq b.name n) here)) within.0)
+    (λ here. subst (λ m. m < most) (eqb-true b.name n ((and_parts (nat_eq b.scope.0 s) (nat_eq b.name n) here).1)) within.0)
     (λ none. here-below most s n bs within.1 (one_of (is_here s n b) (list_any (is_here s n) bs) some none))
 
 -- A name that a scope has an entry of is below `most`.

@@ -1,6 +1,6 @@
 -- Look-ups of names after entries are written.
 use Rattle.std.proofs.Common.{◌≡◌, ◌<◌, ℕ, zero, suc, Bool, true, false, ◌||◌, true≢false, nat_eq, eqb-true, Option, None, List, [], ◌∷◌, length, length-set, slice_set, replicate, refl, sym, ap, subst, ◌∙◌}
-use Rattle.std.proofs.lemmas.Bool.{eqb-false}
+use Rattle.std.proofs.lemmas.Bool.{eqb-false, or_parts}
 pub use Rattle.rl_base.proofs.Slotted.{get_set_same, get_set_other, by_test}
 use Rattle.rl_bindings.specs.Machines.{joined, look, write_all, overwritten, undo}
 use Rattle.rl_bindings.specs.declared.resolve.Entry.{Entry}
@@ -19,14 +19,6 @@ pub length-write : (es : List Entry) (env : List (Option ℕ)) → length (write
 length-write [] env = refl
 length-write (e ∷ es) env = length-write es (slice_set env e.name e.symbol) ∙ length-set env e.name e.symbol
 
-neither_left : (a b : Bool) → (a || b) ≡ false → a ≡ false
-neither_left true b none = absurd (true≢false none)
-neither_left false b none = refl
-
-neither_right : (a b : Bool) → (a || b) ≡ false → b ≡ false
-neither_right true b none = absurd (true≢false none)
-neither_right false b none = none
-
 left_of : (a b : Bool) → (a || b) ≡ true → b ≡ false → a ≡ true
 left_of true b one none = refl
 left_of false b one none = absurd (true≢false (sym one ∙ none))
@@ -34,8 +26,8 @@ left_of false b one none = absurd (true≢false (sym one ∙ none))
 pub look-write_not : (es : List Entry) (env : List (Option ℕ)) (n : ℕ) → has es n ≡ false → look (write_all es env) n ≡ look env n
 look-write_not [] env n none = refl
 look-write_not (e ∷ es) env n none =
-    look-write_not es (slice_set env e.name e.symbol) n (neither_right (nat_eq e.name n) (has es n) none)
-    ∙ ap joined (get_set_other env e.name n e.symbol (eqb-false e.name n (neither_left (nat_eq e.name n) (has es n) none)))
+    look-write_not es (slice_set env e.name e.symbol) n ((or_parts (nat_eq e.name n) (has es n) none).1)
+    ∙ ap joined (get_set_other env e.name n e.symbol (eqb-false e.name n ((or_parts (nat_eq e.name n) (has es n) none).0)))
 
 pub look-write_has : (f : ℕ → Option ℕ) (es : List Entry) (env : List (Option ℕ)) (n : ℕ) → n < length env → Says f es → has es n ≡ true → look (write_all es env) n ≡ f n
 look-write_has f [] env n within says some = absurd (true≢false (sym some))

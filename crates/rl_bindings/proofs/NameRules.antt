@@ -1,5 +1,6 @@
 -- No `var` passes a lexical name if none is declared.
-use Rattle.std.proofs.Common.{◌≡◌, ℕ, Bool, true, false, ◌&&◌, ◌||◌, true≢false, Option, Some, None, List, [], ◌∷◌, replicate, refl, sym, ap, ◌∙◌}
+use Rattle.std.proofs.Common.{◌≡◌, ℕ, Bool, true, false, ◌&&◌, ◌||◌, Option, Some, None, List, [], ◌∷◌, replicate, refl, sym, ap, ◌∙◌}
+use Rattle.std.proofs.lemmas.Bool.{or_parts}
 use Rattle.std.specs.List.{list_any}
 use Rattle.rl_bindings.specs.Machines.{look, write_all, overwritten, undo, entries_at, run, count_names, resolved, any_var}
 use Rattle.rl_bindings.specs.NameRules.{is_passing, is_inside, is_var}
@@ -8,14 +9,6 @@ use Rattle.rl_bindings.specs.declared.event.Event.{Event}
 use Rattle.rl_bindings.specs.declared.event.Event.TheVariants as event
 use Rattle.rl_bindings.specs.declared.resolve.Answer.{Answer}
 use Rattle.rl_bindings.specs.declared.resolve.Entry.{Entry}
-
-neither_left : (a b : Bool) → (a || b) ≡ false → a ≡ false
-neither_left true b none = absurd (true≢false none)
-neither_left false b none = refl
-
-neither_right : (a b : Bool) → (a || b) ≡ false → b ≡ false
-neither_right true b none = absurd (true≢false none)
-neither_right false b none = none
 
 pub or_regroup : (a b c : Bool) → ((a || b) || c) ≡ (a || (b || c))
 or_regroup true b c = refl
@@ -28,8 +21,8 @@ passes-none lexical m (event.Open s ∷ es) env fs none = passes-none lexical m 
 passes-none lexical m (event.Close ∷ es) env [] none = passes-none lexical m es env [] none
 passes-none lexical m (event.Close ∷ es) env (f ∷ fs) none = passes-none lexical m es (undo f env) fs none
 passes-none lexical m (event.Bind b ∷ es) env fs none =
-    ap (λ v. (v && is_inside lexical b.scope.0 (look env b.name)) || list_any (is_passing lexical) (run m env fs es)) (neither_left (is_var b.kind) (any_var es) none)
-    ∙ passes-none lexical m es env fs (neither_right (is_var b.kind) (any_var es) none)
+    ap (λ v. (v && is_inside lexical b.scope.0 (look env b.name)) || list_any (is_passing lexical) (run m env fs es)) ((or_parts (is_var b.kind) (any_var es) none).0)
+    ∙ passes-none lexical m es env fs ((or_parts (is_var b.kind) (any_var es) none).1)
 passes-none lexical m (event.Use node name ∷ es) env fs none = passes-none lexical m es env fs none
 
 pub none_passes : (lexical : List Bound) (es : List Event) → any_var es ≡ false → false ≡ list_any (is_passing lexical) (resolved lexical es)

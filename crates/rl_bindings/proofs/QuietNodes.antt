@@ -1,5 +1,6 @@
 -- Steps of a walk at the quiet nodes, which it passes by.
-use Rattle.std.proofs.Common.{◌≡◌, ℕ, ◌+◌, Bool, true, false, ◌&&◌, Option, List, [], map, ap, sym, refl, ◌∙◌}
+use Rattle.std.proofs.Common.{◌≡◌, ℕ, ◌+◌, Bool, true, ◌&&◌, Option, List, [], map, ap, sym, refl, ◌∙◌}
+use Rattle.std.proofs.lemmas.Bool.{and_parts}
 use Rattle.rl_bindings.specs.Events.{sign, back}
 use Rattle.rl_bindings.specs.Quiet.{is_quiet_word, is_open, is_quiet, is_plain, is_silent, inside}
 use Rattle.rl_bindings.specs.Roles.{role_of, parts_ahead, below}
@@ -83,14 +84,6 @@ quiet_word _ is = record {
   under = λ c index. refl;
 }
 
-both_first : (a b : Bool) → (a && b) ≡ true → a ≡ true
-both_first true b both = refl
-both_first false b both = absurd (cc)
-
-both_second : (a b : Bool) → (a && b) ≡ true → b ≡ true
-both_second true b both = both
-both_second false b both = absurd (cc)
-
 other_open : (at : Place) (w : Word) → is_open at ≡ true → other_stands at w ≡ true
 other_open stands.Export w open_is = absurd (cc)
 other_open stands.DefaultExport w open_is = absurd (cc)
@@ -98,11 +91,11 @@ other_open _ w open_is = refl
 
 module _ (c : Context) (w : Word) (quiet : is_quiet c w ≡ true) where
   pub passed : IsPassed w
-  passed = quiet_word w (both_first (is_quiet_word w) (is_open c.1.1.0) quiet)
+  passed = quiet_word w ((and_parts (is_quiet_word w) (is_open c.1.1.0) quiet).0)
 
   -- The rules hold at the node, whatever its parts are.
   node_holds : (ps : Pieces) → node_passes c w ps ≡ true
-  node_holds ps = passed.stands c ps ∙ ap (λ b. b && true) (other_open c.1.1.0 w (both_second (is_quiet_word w) (is_open c.1.1.0) quiet))
+  node_holds ps = passed.stands c ps ∙ ap (λ b. b && true) (other_open c.1.1.0 w ((and_parts (is_quiet_word w) (is_open c.1.1.0) quiet).1))
 
   -- The parts of the node are as the items of a list that nothing stands above.
   as_items : (index : ℕ) (ps : Pieces) → parts_pass node_passes part_below c w index ps ≡ items_pass node_passes part_below outermost ps
@@ -124,7 +117,7 @@ plain_role role.User plain = absurd (cc)
 
 module _ (c : Context) (w : Word) (silent : is_silent c w ≡ true) where
   pub silent_quiet : is_quiet c w ≡ true
-  silent_quiet = both_first (is_quiet c w) (is_plain (role_of w)) silent
+  silent_quiet = (and_parts (is_quiet c w) (is_plain (role_of w)) silent).0
 
   pub silent_plain : role_of w ≡ role.Plain
-  silent_plain = plain_role (role_of w) (both_second (is_quiet c w) (is_plain (role_of w)) silent)
+  silent_plain = plain_role (role_of w) ((and_parts (is_quiet c w) (is_plain (role_of w)) silent).1)

@@ -2,6 +2,7 @@
 use Rattle.std.proofs.Common.{◌++◌}
 use Rattle.std.proofs.Common.{◌≡◌, ℕ, ◌||◌, Bool, true, false, true≢false, List, [], ◌∷◌, length, codes, Option, Some, None, refl, sym}
 use Rattle.std.proofs.Common.{ap, if◌then◌else◌, ◌∙◌, subst, arith}
+use Rattle.std.proofs.lemmas.Bool.{or_parts}
 use Rattle.rl_base.specs.declared.ids.BlockId.{BlockId}
 use Rattle.rl_base.specs.declared.ids.SymbolId.{SymbolId}
 use Rattle.rl_base.specs.declared.span.Span.{Span}
@@ -109,50 +110,46 @@ returned_meant _ scene own at = refl
 
 -- Nothing of a node is a declaration by `using`.
 
-or_false : (a b : Bool) → a || b ≡ false → (a ≡ false) × (b ≡ false)
-or_false true b is = absurd (true≢false is)
-or_false false b is = (refl, is)
-
 branches_unused : (test consequent alternate : Syntax) → has_using test || (has_using consequent || (has_using alternate || false)) ≡ false
     → (has_using consequent ≡ false) × (has_using alternate ≡ false)
 branches_unused test consequent alternate is =
-    let rest = or_false (has_using consequent) (has_using alternate || false) (or_false (has_using test) _ is).1 in
-    (rest.0, (or_false (has_using alternate) false rest.1).0)
+    let rest = or_parts (has_using consequent) (has_using alternate || false) (or_parts (has_using test) _ is).1 in
+    (rest.0, (or_parts (has_using alternate) false rest.1).0)
 
 head_unused : (init test update body : Syntax)
     → has_using init || (has_using test || (has_using update || (has_using body || false))) ≡ false
     → (has_using init ≡ false) × (has_using body ≡ false)
 head_unused init test update body is =
-    let first = or_false (has_using init) _ is in
-    let second = or_false (has_using test) _ first.1 in
-    let third = or_false (has_using update) _ second.1 in
-    (first.0, (or_false (has_using body) false third.1).0)
+    let first = or_parts (has_using init) _ is in
+    let second = or_parts (has_using test) _ first.1 in
+    let third = or_parts (has_using update) _ second.1 in
+    (first.0, (or_parts (has_using body) false third.1).0)
 
 rounds_unused : (head right body : Syntax) → has_using head || (has_using right || (has_using body || false)) ≡ false
     → (has_using head ≡ false) × (has_using body ≡ false)
 rounds_unused head right body is =
-    let first = or_false (has_using head) _ is in
-    let second = or_false (has_using right) _ first.1 in
-    (first.0, (or_false (has_using body) false second.1).0)
+    let first = or_parts (has_using head) _ is in
+    let second = or_parts (has_using right) _ first.1 in
+    (first.0, (or_parts (has_using body) false second.1).0)
 
 switch_unused : (value : Syntax) (cases : Pieces) → has_using value || (have_using cases || false) ≡ false → have_using cases ≡ false
-switch_unused value cases is = (or_false (have_using cases) false (or_false (has_using value) _ is).1).0
+switch_unused value cases is = (or_parts (have_using cases) false (or_parts (has_using value) _ is).1).0
 
 -- Of a case and of the cases behind it.
 case_unused : (test : Syntax) (statements cases : Pieces)
     → (has_using test || (have_using statements || false)) || have_using cases ≡ false
     → (have_using statements ≡ false) × (have_using cases ≡ false)
 case_unused test statements cases is =
-    let both = or_false (has_using test || (have_using statements || false)) (have_using cases) is in
-    ((or_false (have_using statements) false (or_false (has_using test) _ both.0).1).0, both.1)
+    let both = or_parts (has_using test || (have_using statements || false)) (have_using cases) is in
+    ((or_parts (have_using statements) false (or_parts (has_using test) _ both.0).1).0, both.1)
 
 -- Of the block of a `try` statement, and of the body of its `catch`.
 try_unused : (block param body : Syntax) → has_using block || ((has_using param || (has_using body || false)) || false) ≡ false
     → (has_using block ≡ false) × (has_using body ≡ false)
 try_unused block param body is =
-    let both = or_false (has_using block) _ is in
-    let inside = or_false (has_using param || (has_using body || false)) false both.1 in
-    (both.0, (or_false (has_using body) false (or_false (has_using param) _ inside.0).1).0)
+    let both = or_parts (has_using block) _ is in
+    let inside = or_parts (has_using param || (has_using body || false)) false both.1 in
+    (both.0, (or_parts (has_using body) false (or_parts (has_using param) _ inside.0).1).0)
 
 -- Declarations of variables.
 
@@ -338,7 +335,7 @@ mutual
       (return_runs scene.world s t (eval scene e) p (Some at.span) returns.Explicit blocks.Block
       (expression_runs by (first_none (refusals names e) [] none) scene same ported))
   statement_runs {names} (Block at statements s t by) tried h none unused scene same ported takes =
-      statements_runs by tried h none (or_false (have_using statements) false unused).0 scene same ported takes
+      statements_runs by tried h none (or_parts (have_using statements) false unused).0 scene same ported takes
   statement_runs {names} (IfThen at test consequent s s2 s3 p by_consequent by_test) tried h none unused scene same ported takes =
       does_same scene.world s _
       (λ ways normal source answers. sym (if_meant scene None at test consequent Absent ways normal source answers))
@@ -362,12 +359,12 @@ mutual
       (expression_runs by_test (branches_clean_at names tried consequent alternate test none).2 scene same ported))
   statement_runs (Unlabeled loop s t by) tried h none unused scene same ported takes = loop_runs by tried h none unused scene same ported takes
   statement_runs {names} (LabeledLoop at label loop s t by) tried h none unused scene same ported takes =
-      loop_runs by tried h none (or_false (has_using loop) false unused).0 scene same ported takes
+      loop_runs by tried h none (or_parts (has_using loop) false unused).0 scene same ported takes
   statement_runs {names} (Labeled at label body s s2 other by) tried h none unused scene same ported takes =
       label_runs s s2 label at.span (span_of body) (statement_blocks by).extends scene.world (exec scene (Some label) body)
       (subst (λ (d : Action (Unit {0})). RunsStatement scene.world d (label_begun s label) s2)
       (sym (unowned_meant by other scene (Some label)))
-      (statement_runs by tried h none (or_false (has_using body) false unused).0 scene same ported takes))
+      (statement_runs by tried h none (or_parts (has_using body) false unused).0 scene same ported takes))
   statement_runs (Break at label target s is) tried h none unused scene same ported takes =
       subst (λ (d : Action (Unit {0})). RunsStatement scene.world d s (next_hole s target.0 gotos.Break at.span blocks.Block))
       (sym (break_meant scene None at label)) (break_runs scene.world s label target at.span blocks.Block is)
@@ -449,14 +446,14 @@ mutual
       does_same scene.world s _ (λ ways normal source answers. sym (while_meant scene own at test body ways normal source answers))
       (while_runs s s2 s3 own p at.span (span_of body) (statement_blocks by).extends (expression_blocks by_test).extends scene.world
       (eval scene test) (exec scene None body)
-      (statement_runs by tried h clean.0 (or_false (has_using body) false (or_false (has_using test) _ unused).1).0 scene same ported takes)
+      (statement_runs by tried h clean.0 (or_parts (has_using body) false (or_parts (has_using test) _ unused).1).0 scene same ported takes)
       (expression_runs by_test clean.1 scene same ported))
   loop_runs {names} {own} (DoWhile at test body s s2 s3 p by by_test) tried h none unused scene same ported takes =
       let clean = while_clean names tried test body none in
       does_same scene.world s _ (λ ways normal source answers. sym (do_while_meant scene own at test body ways normal source answers))
       (do_while_runs s s2 s3 own p at.span (span_of body) (statement_blocks by).extends (expression_blocks by_test).extends scene.world
       (eval scene test) (exec scene None body)
-      (statement_runs by tried h clean.0 (or_false (has_using body) _ unused).0 scene same ported takes)
+      (statement_runs by tried h clean.0 (or_parts (has_using body) _ unused).0 scene same ported takes)
       (expression_runs by_test clean.1 scene same ported))
   loop_runs {names} {own} (ForUpdated at init test update body s s2 s3 s4 s5 u p by_init by_update by by_test) tried h none unused scene
       same ported takes =
@@ -509,7 +506,7 @@ mutual
   statements_runs (NoStatement s) tried h none unused scene same ported takes = nothing_runs scene.world s
   statements_runs {names} (NextStatement e es s t u by all) tried h none unused scene same ported takes =
       let clean = among_clean names tried e es none in
-      let bare = or_false (has_using e) (have_using es) unused in
+      let bare = or_parts (has_using e) (have_using es) unused in
       order_runs scene.world s t u (exec scene None e) (exec_all scene es) (statement_blocks by).extends (statements_blocks all).extends
       (statement_runs by tried h clean.0 bare.0 scene same ported takes)
       (statements_runs all tried (tried_on s t (statement_blocks by).extends.handlers h) clean.1 bare.1 scene same ported takes)
@@ -550,7 +547,7 @@ pub body_runs : {names : Names} {b : Syntax} {s t : State} → s.handlers ≡ []
     → RunsStatement scene.world (exec_before_end scene b) s t
 body_runs {s = s} unhandled (Statements at directives statements s1 t texts by) none unused scene same ported takes =
     statements_runs by false (tried_none s unhandled) none
-    (or_false (have_using statements) false (or_false (have_using directives) (have_using statements || false) unused).1).0 scene same ported takes
+    (or_parts (have_using statements) false (or_parts (have_using directives) (have_using statements || false) unused).1).0 scene same ported takes
 body_runs {names} unhandled (OfValue e s t p by) none unused scene same ported takes =
     subst
     (λ (d : Action (Unit {0})). RunsStatement scene.world d s (completed_by t (return_of None returns.Implicit p) (new_block s.env.next_block blocks.Block)))

@@ -2,6 +2,7 @@
 use Rattle.std.proofs.Common.{◌≡◌, ℕ, zero, suc, ◌+◌, ◌<◌, ◌≤◌, Bool, true, false, ◌&&◌, ◌||◌, if◌then◌else◌, Option, Some, None, List, [], ◌∷◌, ◌++◌, length, slice_get, refl, sym, ap, ◌∙◌, subst, arith, eq-eqb, eqb-true, length-append}
 use Rattle.std.specs.Prelude.{nat_eq}
 use Rattle.std.proofs.lemmas.Option.{slice_get_within}
+use Rattle.std.proofs.lemmas.Bool.{or_parts}
 use Rattle.rl_base.specs.declared.ids.InstructionId.{InstructionId}
 use Rattle.rl_hir.specs.Blocks.{Pair}
 use Rattle.rl_hir.specs.declared.instruction.Instruction.{Instruction}
@@ -86,12 +87,8 @@ still q r (a ∷ all) other there = by_head (same_point q a) refl (still q r all
 among_without : (q : Point) (all points : List Point) → is_passed q points ≡ false → AreAmong all points → AreAmong (without q all) points
 among_without q all [] fresh Nothing = Nothing
 among_without q all (r ∷ rest) fresh (Another _ _ once there among) =
-    let parts : (same_point q r ≡ false) × (is_passed q rest ≡ false) = split (same_point q r) (is_passed q rest) fresh in
+    let parts : (same_point q r ≡ false) × (is_passed q rest ≡ false) = or_parts (same_point q r) (is_passed q rest) fresh in
     Another r rest once (still q r all (same_turned r q ∙ parts.0) there) (among_without q all rest parts.1 among)
-  where
-    split : (b d : Bool) → (b || d) ≡ false → (b ≡ false) × (d ≡ false)
-    split true d e = absurd (cc)
-    split false d e = (refl, e)
 
 -- A list without repetition within another is no longer.
 pub at_most : (all points : List Point) → AreAmong all points → length points ≤ length all

@@ -4,7 +4,7 @@ use Rattle.std.proofs.Common.{◌∷◌, ◌++◌, map, slice_get, ap, sym, refl
 use Rattle.std.specs.BTreeSet.{BTreeSet}
 use Rattle.std.proofs.Math.Path.{subst}
 use Rattle.std.proofs.lemmas.List.Folds.{list_any-append}
-use Rattle.rl_base.proofs.Bools.{and_true, or_assoc, or_false}
+use Rattle.rl_base.proofs.Bools.{and_true, or_false}
 use Rattle.rl_bindings.proofs.LookUps.{by_test}
 use Rattle.rl_bindings.specs.declared.bindings.Bindings.{Bindings}
 use Rattle.rl_bindings.specs.declared.event.Bound.{Bound}

@@ -3,7 +3,7 @@ use Rattle.std.proofs.Common.{◌≡◌, ℕ, nat_eq, nat_le, nat_lt, eqb-true, 
 use Rattle.std.proofs.Common.{Some, None, List, [], ◌∷◌, ◌++◌, map, slice_get, ap, sym, refl, ◌∙◌}
 use Rattle.std.specs.List.{list_any}
 use Rattle.std.proofs.Math.Path.{subst}
-use Rattle.rl_base.proofs.Bools.{and_true, or_assoc, or_false, or_true}
+use Rattle.rl_base.proofs.Bools.{and_true, or_assoc, or_false}
 use Rattle.rl_base.specs.declared.ids.SymbolId.{SymbolId}
 use Rattle.rl_bindings.proofs.LookUps.{by_test}
 use Rattle.rl_bindings.specs.declared.bindings.Bindings.{Bindings}

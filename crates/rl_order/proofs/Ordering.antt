@@ -1,6 +1,7 @@
 -- The invariant of a walk: each block is appended once, and edges go back on cycles alone.
 use Rattle.std.proofs.Common.{◌≡◌, ℕ, Bool, true, false, cond, not, ◌||◌, ◌⊎◌, inl, inr, true≢false, Option, Some, None, List, [], ◌∷◌, ◌++◌, map, reverse, is_some, refl, append-nil, sym, ap, ◌∙◌, subst, eq-eqb, eqb-true}
 use Rattle.std.proofs.lemmas.List.{reverse-append}
+use Rattle.std.proofs.lemmas.Bool.{or_parts}
 use Rattle.std.specs.List.{list_any}
 use Rattle.std.specs.Map.{lookup}
 use Rattle.rl_base.specs.declared.ids.BlockId.{BlockId}
@@ -77,10 +78,6 @@ backwards false b h e = refl
 pub either : (a b : Bool) → (a || b) ≡ true → (a ≡ true) ⊎ (b ≡ true)
 either true b h = inl refl
 either false b h = inr h
-
-neither : (a b : Bool) → (a || b) ≡ false → (a ≡ false) × (b ≡ false)
-neither true b h = absurd (true≢false h)
-neither false b h = (refl, h)
 
 pub or_right : (a b : Bool) → b ≡ true → (a || b) ≡ true
 or_right true b h = refl
@@ -358,7 +355,7 @@ around graph w inner v block at good reach kept true first =
     seen id h = kept.seen id (seen_more w v (fallthrough block.terminal) id h)
 
     apart : (id : BlockId) → is_done (appended inner v.id) id ≡ false → (same_id id v.id ≡ false) × (is_done inner id ≡ false)
-    apart id h = neither (same_id id v.id) (is_done inner id) (sym (ap (list_any (same_id id)) (order_more inner v.id)) ∙ h)
+    apart id h = or_parts (same_id id v.id) (is_done inner id) (sym (ap (list_any (same_id id)) (order_more inner v.id)) ∙ h)
 
     opened : (id : BlockId) → IsOpen (appended inner v.id) id → IsOpen w id
     opened id o =

@@ -2,6 +2,7 @@
 use Rattle.std.proofs.Common.{◌≡◌, ℕ, suc, ◌+◌, ◌<◌, ◌≤◌, Bool, true, false, if◌then◌else◌, ◌&&◌, true≢false, Option, Some, None, List, [], ◌∷◌, ◌++◌, map, reverse, is_some, length, length-append, refl, sym, ap, ◌∙◌, subst, arith, append_assoc}
 use Rattle.std.proofs.lemmas.List.{reverse-append}
 use Rattle.std.proofs.lemmas.List.Folds.{list_all-append}
+use Rattle.std.proofs.lemmas.Bool.{and_parts}
 use Rattle.std.specs.List.{list_all}
 use Rattle.rl_base.specs.declared.ids.BlockId.{BlockId}
 use Rattle.rl_hir.specs.Blocks.{Pair, block_at}
@@ -76,10 +77,6 @@ split graph (v ∷ vs) ts w end count r =
       onward = rest.onward;
       sum = omega (arith, both, parts);
     }
-
-and_both : (a b : Bool) → (a && b) ≡ true → (a ≡ true) × (b ≡ true)
-and_both true b h = (refl, h)
-and_both false b h = absurd (true≢false (sym h))
 
 fused : (used : Bool) (ids : List BlockId)
     → map (λ v. tasks.Enter v) (map (visit used) ids) ≡ map (λ id. tasks.Enter (visit used id)) ids
@@ -199,7 +196,7 @@ known_visits : (graph : List Pair) (used : Bool) (ids : List BlockId) → list_a
     → list_all (is_known graph) (map (λ id. tasks.Enter (visit used id)) ids) ≡ true
 known_visits graph used [] h = refl
 known_visits graph used (id ∷ ids) h =
-    let both = and_both (has_block graph id) (list_all (has_block graph) ids) h in
+    let both = and_parts (has_block graph id) (list_all (has_block graph) ids) h in
     ap (λ b. b && list_all (is_known graph) (map (λ id. tasks.Enter (visit used id)) ids)) both.0
     ∙ known_visits graph used ids both.1
 
@@ -214,13 +211,13 @@ known_append graph xs ys hx hy = list_all-append (is_known graph) xs ys ∙ ap (
 pub known_parts : (graph : List Pair) (xs ys : List Task) → list_all (is_known graph) (xs ++ ys) ≡ true
     → (list_all (is_known graph) xs ≡ true) × (list_all (is_known graph) ys ≡ true)
 known_parts graph xs ys h =
-    and_both (list_all (is_known graph) xs) (list_all (is_known graph) ys) (sym (list_all-append (is_known graph) xs ys) ∙ h)
+    and_parts (list_all (is_known graph) xs) (list_all (is_known graph) ys) (sym (list_all-append (is_known graph) xs ys) ∙ h)
 
 known_from : (graph : List Pair) (entry : BlockId) (first : Bool) (v : Visit) (block : BasicBlock) → IsWhole graph entry
     → block_at graph v.id ≡ Some block
     → list_all (is_known graph) (tasks_from first v block) ≡ true
 known_from graph entry first v block whole at =
-    let parts = and_both (list_all (has_block graph) (listed_id (fallthrough block.terminal)))
+    let parts = and_parts (list_all (has_block graph) (listed_id (fallthrough block.terminal)))
     (list_all (has_block graph) (successor_ids block.terminal))
     (sym (list_all-append (has_block graph) (listed_id (fallthrough block.terminal)) (successor_ids block.terminal))
     ∙ whole.leads v.id block at) in

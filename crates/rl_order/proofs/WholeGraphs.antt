@@ -5,6 +5,7 @@ use Rattle.std.proofs.lemmas.List.Folds.{list_all-append, list_all_more}
 use Rattle.std.proofs.lemmas.List.{drop_all, take_all}
 use Rattle.std.proofs.lemmas.Map.Entries.{place_from_lookup}
 use Rattle.std.proofs.lemmas.Option.{get_or_from_slice_get, slice_get_within}
+use Rattle.std.proofs.lemmas.Bool.{and_parts}
 use Rattle.std.specs.List.{list_all}
 use Rattle.rl_base.proofs.DistinctLists.{distinct_tail}
 use Rattle.rl_base.specs.declared.ids.BlockId.{BlockId}
@@ -28,15 +29,11 @@ block_there (q ∷ graph) (suc place) p own at =
     let other = apart q graph place p.0 own (id_at graph place p at) (same_id p.0 q.0) refl in
     rw other (block_there graph place p (distinct_tail q.0.0 (ids graph) own) at)
 
-both : (a b : Bool) → (a && b) ≡ true → (a ≡ true) × (b ≡ true)
-both true b h = (refl, h)
-both false b h = absurd (true≢false (sym h))
-
 in_all : (test : Pair → Bool) (pairs : List Pair) (place : ℕ) (p : Pair) → list_all test pairs ≡ true → slice_get pairs place ≡ Some p → test p ≡ true
 in_all test [] place p all at = absurd (cc)
 in_all test (q ∷ pairs) zero p all at =
-    let same : q ≡ p = cc in subst (λ (r : Pair). test r ≡ true) same (both (test q) (list_all test pairs) all).0
-in_all test (q ∷ pairs) (suc place) p all at = in_all test pairs place p (both (test q) (list_all test pairs) all).1 at
+    let same : q ≡ p = cc in subst (λ (r : Pair). test r ≡ true) same (and_parts (test q) (list_all test pairs) all).0
+in_all test (q ∷ pairs) (suc place) p all at = in_all test pairs place p (and_parts (test q) (list_all test pairs) all).1 at
 
 -- The blocks to which a block leads are there if its fallthrough and its successors are.
 pub both_parts : (graph : List Pair) (block : BasicBlock) (behind ahead : Bool) → behind ≡ list_all (has_block graph) (listed_id (fallthrough block.terminal))

@@ -1,5 +1,6 @@
 -- The bindings that a tree's imports make, by the tree's form, behind those that were found before.
 use Rattle.std.proofs.Common.{◌≡◌, ℕ, Bool, true, false, ◌||◌, true≢false, Option, Some, None, List, [], ◌∷◌, ◌++◌, map, append-nil, append_assoc, ap, refl, sym, ◌∙◌}
+use Rattle.std.proofs.lemmas.Bool.{or_parts}
 use Rattle.rl_base.specs.declared.ids.NodeId.{NodeId}
 use Rattle.rl_semantic.specs.Imports.{binding_of, kind_of, specifier, import_of, imports_in, imports_among}
 use Rattle.rl_semantic.specs.ImportNodes.{is_import, has_import}
@@ -73,10 +74,6 @@ none_made : (w : Word) (parts : Pieces) → is_import w ≡ false → import_of 
 none_made word.Import parts none = absurd (true≢false none)
 none_made _ parts none = refl
 
-or_none : (a b : Bool) → (a || b) ≡ false → (a ≡ false) × (b ≡ false)
-or_none false b none = (refl, none)
-or_none true b none = absurd (true≢false none)
-
 import-append : (es fs : List NodeEntry) → has_import (es ++ fs) ≡ has_import es || has_import fs
 import-append [] fs = refl
 import-append (e ∷ es) fs = ap (λ b. is_import e.word || b) (import-append es fs) ∙ assoc (is_import e.word) (has_import es) (has_import fs)
@@ -88,7 +85,7 @@ import-append (e ∷ es) fs = ap (λ b. is_import e.word || b) (import-append es
 mutual
   none_in : (tree : Syntax) (parent : Option NodeId) → has_import (entries_under parent tree) ≡ false → imports_in tree ≡ []
   none_in (Node at w parts) parent none =
-      let both = or_none (is_import w) (has_import (entries_among (Some at.id) parts)) none in
+      let both = or_parts (is_import w) (has_import (entries_among (Some at.id) parts)) none in
       λ i. none_made w parts both.0 i ++ none_among parts (Some at.id) both.1 i
   none_in (Listed parts) parent none = none_among parts parent none
   none_in (Said text) parent none = refl
@@ -99,7 +96,7 @@ mutual
   none_among : (parts : Pieces) (parent : Option NodeId) → has_import (entries_among parent parts) ≡ false → imports_among parts ≡ []
   none_among End parent none = refl
   none_among (Then piece pieces) parent none =
-      let both = or_none (has_import (entries_under parent piece)) (has_import (entries_among parent pieces)) (sym (import-append (entries_under parent piece) (entries_among parent pieces)) ∙ none) in
+      let both = or_parts (has_import (entries_under parent piece)) (has_import (entries_among parent pieces)) (sym (import-append (entries_under parent piece) (entries_among parent pieces)) ∙ none) in
       λ i. none_in piece parent both.0 i ++ none_among pieces parent both.1 i
 
 -- A tree makes no bindings if no import is among its nodes.

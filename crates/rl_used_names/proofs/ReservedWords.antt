@@ -1,7 +1,8 @@
 -- The reserved words, each at its slot, by computation.
-use Rattle.std.proofs.Common.{◌≡◌, ℕ, ◌<◌, Bool, true, false, ◌&&◌, ◌||◌, List, [], ◌∷◌, get_or, map, bytes_eq, sym, ap, ◌∙◌, refl}
+use Rattle.std.proofs.Common.{◌≡◌, ℕ, ◌<◌, Bool, true, false, ◌||◌, List, [], ◌∷◌, get_or, map, bytes_eq, sym, ap, ◌∙◌, refl}
 use Rattle.std.proofs.lemmas.List.Folds.{list_all_at}
 use Rattle.std.proofs.lemmas.Slice.Eq.{bytes_eq-Decides}
+use Rattle.std.proofs.lemmas.Bool.{and_parts}
 use Rattle.std.specs.List.{list_all, list_any}
 use Rattle.rl_base.specs.Reserved.{is_reserved, reserved_words}
 use Rattle.rl_used_names.specs.ReservedSlots.{is_at, slot_of}
@@ -21,16 +22,11 @@ is_there word = is_at slots (slot_of word) word
 all_there : list_all is_there reserved_words ≡ true
 all_there = refl
 
-both : (a b : Bool) → (a && b) ≡ true → (a ≡ true) × (b ≡ true)
-both true true h = (refl, refl)
-both true false h = absurd (cc)
-both false b h = absurd (cc)
-
 -- A word of the list is at its slot.
 one_there : (word : List ℕ) (words : List (List ℕ)) → list_all is_there words ≡ true → list_any (λ reserved. bytes_eq reserved word) words ≡ true → is_there word ≡ true
 one_there word [] all some = absurd (cc)
 one_there word (first ∷ words) all some =
-    let parts : (is_there first ≡ true) × (list_all is_there words ≡ true) = both _ _ all in
+    let parts : (is_there first ≡ true) × (list_all is_there words ≡ true) = and_parts _ _ all in
     by_head (bytes_eq first word) refl some parts.0 (one_there word words parts.1)
   where
     by_head : (b : Bool) → bytes_eq first word ≡ b → (b || list_any (λ reserved. bytes_eq reserved word) words) ≡ true → is_there first ≡ true
