@@ -1,13 +1,12 @@
 -- Entities are found by name, the first of a name.
 use Rattle.std.proofs.Common.{◌≡◌, ℕ, ◌+◌, Bool, true, false, not, ◌&&◌, if◌then◌else◌, Option, Some, None, is_some, List, [], ◌∷◌, ◌++◌, refl, sym, ap, ◌∙◌, true≢false, inl, inr}
-use Rattle.std.proofs.lemmas.Bool.{cases_Bool}
+use Rattle.std.proofs.lemmas.Bool.{cases_Bool, and_parts}
 use Rattle.std.proofs.lemmas.List.Folds.{list_all-append}
 use Rattle.std.proofs.lemmas.Slice.Eq.{bytes_eq-Decides}
 use Rattle.std.specs.Option.{option_map}
 use Rattle.std.specs.Str.{bytes_eq}
 use Rattle.rl_base.specs.NameTables.{index_from, index_named, item_named}
 use Rattle.rl_base.specs.Scalars.{is_scalar_value}
-use Rattle.rl_text.proofs.Runs.{both}
 use Rattle.rl_atoms.specs.Entities.{entity_name, entity_value, are_scalar}
 use Rattle.rl_atoms.specs.declared.entity.Entity.{Entity}
 
@@ -88,7 +87,7 @@ entity_scalar (x ∷ entities) name entity found all = elim (cases_Bool (bytes_e
   | inl here ↦
       let at : Some x ≡ Some entity = ap (λ (b : Bool). if b then Some x else item_named entity_name entities name) (sym here) ∙ found in
       let same : x ≡ entity = cc in
-      ap (λ (e : Entity). is_scalar_value e.value) (sym same) ∙ (both _ _ all).0
+      ap (λ (e : Entity). is_scalar_value e.value) (sym same) ∙ (and_parts _ _ all).0
   | inr away ↦
-      entity_scalar entities name entity (ap (λ (b : Bool). if b then Some x else item_named entity_name entities name) (sym away) ∙ found) (both _ _ all).1
+      entity_scalar entities name entity (ap (λ (b : Bool). if b then Some x else item_named entity_name entities name) (sym away) ∙ found) (and_parts _ _ all).1
 ]

@@ -115,7 +115,7 @@ here-below : (most s n : ℕ) (bs : List Bound) → AreNamed most bs → list_an
 here-below most s n [] within some = absurd (true≢false (sym some))
 here-below most s n (b ∷ bs) within some =
     by_test (is_here s n b)
-    (λ here. subst (λ m. m < most) (eqb-true b.name n ((and_parts (nat_eq b.scope.0 s) (nat_eq b.name n) here).1)) within.0)
+    (λ here. subst (λ m. m < most) (eqb-true b.name n (and_parts (nat_eq b.scope.0 s) (nat_eq b.name n) here).1) within.0)
     (λ none. here-below most s n bs within.1 (one_of (is_here s n b) (list_any (is_here s n) bs) some none))
 
 -- A name that a scope has an entry of is below `most`.

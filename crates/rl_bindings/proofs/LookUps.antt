@@ -26,8 +26,8 @@ left_of false b one none = absurd (true≢false (sym one ∙ none))
 pub look-write_not : (es : List Entry) (env : List (Option ℕ)) (n : ℕ) → has es n ≡ false → look (write_all es env) n ≡ look env n
 look-write_not [] env n none = refl
 look-write_not (e ∷ es) env n none =
-    look-write_not es (slice_set env e.name e.symbol) n ((or_parts (nat_eq e.name n) (has es n) none).1)
-    ∙ ap joined (get_set_other env e.name n e.symbol (eqb-false e.name n ((or_parts (nat_eq e.name n) (has es n) none).0)))
+    look-write_not es (slice_set env e.name e.symbol) n (or_parts (nat_eq e.name n) (has es n) none).1
+    ∙ ap joined (get_set_other env e.name n e.symbol (eqb-false e.name n (or_parts (nat_eq e.name n) (has es n) none).0))
 
 pub look-write_has : (f : ℕ → Option ℕ) (es : List Entry) (env : List (Option ℕ)) (n : ℕ) → n < length env → Says f es → has es n ≡ true → look (write_all es env) n ≡ f n
 look-write_has f [] env n within says some = absurd (true≢false (sym some))

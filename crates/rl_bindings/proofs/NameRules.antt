@@ -21,8 +21,8 @@ passes-none lexical m (event.Open s ∷ es) env fs none = passes-none lexical m 
 passes-none lexical m (event.Close ∷ es) env [] none = passes-none lexical m es env [] none
 passes-none lexical m (event.Close ∷ es) env (f ∷ fs) none = passes-none lexical m es (undo f env) fs none
 passes-none lexical m (event.Bind b ∷ es) env fs none =
-    ap (λ v. (v && is_inside lexical b.scope.0 (look env b.name)) || list_any (is_passing lexical) (run m env fs es)) ((or_parts (is_var b.kind) (any_var es) none).0)
-    ∙ passes-none lexical m es env fs ((or_parts (is_var b.kind) (any_var es) none).1)
+    ap (λ v. (v && is_inside lexical b.scope.0 (look env b.name)) || list_any (is_passing lexical) (run m env fs es)) (or_parts (is_var b.kind) (any_var es) none).0
+    ∙ passes-none lexical m es env fs (or_parts (is_var b.kind) (any_var es) none).1
 passes-none lexical m (event.Use node name ∷ es) env fs none = passes-none lexical m es env fs none
 
 pub none_passes : (lexical : List Bound) (es : List Event) → any_var es ≡ false → false ≡ list_any (is_passing lexical) (resolved lexical es)

@@ -91,11 +91,11 @@ other_open _ w open_is = refl
 
 module _ (c : Context) (w : Word) (quiet : is_quiet c w ≡ true) where
   pub passed : IsPassed w
-  passed = quiet_word w ((and_parts (is_quiet_word w) (is_open c.1.1.0) quiet).0)
+  passed = quiet_word w (and_parts (is_quiet_word w) (is_open c.1.1.0) quiet).0
 
   -- The rules hold at the node, whatever its parts are.
   node_holds : (ps : Pieces) → node_passes c w ps ≡ true
-  node_holds ps = passed.stands c ps ∙ ap (λ b. b && true) (other_open c.1.1.0 w ((and_parts (is_quiet_word w) (is_open c.1.1.0) quiet).1))
+  node_holds ps = passed.stands c ps ∙ ap (λ b. b && true) (other_open c.1.1.0 w (and_parts (is_quiet_word w) (is_open c.1.1.0) quiet).1)
 
   -- The parts of the node are as the items of a list that nothing stands above.
   as_items : (index : ℕ) (ps : Pieces) → parts_pass node_passes part_below c w index ps ≡ items_pass node_passes part_below outermost ps
@@ -120,4 +120,4 @@ module _ (c : Context) (w : Word) (silent : is_silent c w ≡ true) where
   silent_quiet = (and_parts (is_quiet c w) (is_plain (role_of w)) silent).0
 
   pub silent_plain : role_of w ≡ role.Plain
-  silent_plain = plain_role (role_of w) ((and_parts (is_quiet c w) (is_plain (role_of w)) silent).1)
+  silent_plain = plain_role (role_of w) (and_parts (is_quiet c w) (is_plain (role_of w)) silent).1

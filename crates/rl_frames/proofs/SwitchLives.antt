@@ -3,6 +3,7 @@
 use Rattle.std.proofs.Common.{◌≡◌, ℕ, ◌+◌, ◌-◌, ◌++◌, ◌||◌, Bool, true, false, not, is_some, if◌then◌else◌, List, [], ◌∷◌, length, map, All}
 use Rattle.std.proofs.Common.{Option, Some, None, Ok, refl, sym, ap, ◌∙◌, subst}
 use Rattle.std.proofs.lemmas.List.Elements.{All-append, All-nil}
+use Rattle.std.proofs.lemmas.Bool.{not-true}
 use Rattle.std.specs.List.{list_any}
 use Rattle.rl_base.specs.declared.ids.BlockId.{BlockId}
 use Rattle.rl_base.specs.declared.span.Span.{Span}
@@ -174,10 +175,6 @@ one_of true b d R is first second third = first refl
 one_of false true d R is first second third = second refl
 one_of false false d R is first second third = third is
 
-not_so : (b : Bool) → not b ≡ true → b ≡ false
-not_so true is = let never : false ≡ true = is in absurd (cc)
-not_so false is = refl
-
 -- The whole statement, behind its value.
 module _ (own : Label) (s t : State) (cases : List Case) (value : Place) (span : Span) where
   abbrev behind : ℕ
@@ -273,7 +270,7 @@ module _ (own : Label) (s t : State) (cases : List Case) (value : Place) (span :
           (ContinueLeads (IsLedTo c entry) (s.scopes ++ scope.Switch (Some label) (block_id behind) ∷ []))
           (ContinueLeads (IsLedTo c entry) s.scopes)
           (λ jump is leads. continue_left (IsLedTo c entry) s.scopes (scope.Switch (Some label) (block_id behind)) jump
-          (named jump ∙ not_so (is_labeled label jump) is) leads) outs.continues all
+          (named jump ∙ not-true (is_labeled label jump) is) leads) outs.continues all
         where
           named : (jump : Label) → takes_continue jump (scope.Switch (Some label) (block_id behind)) ≡ is_labeled label jump
           named None = refl

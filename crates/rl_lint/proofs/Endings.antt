@@ -4,6 +4,7 @@ use Rattle.std.proofs.Common.{nat_eq, not, ◌&&◌, List, [], ◌∷◌, ◌++�
 use Rattle.std.proofs.Common.{append_assoc, append-nil, ap, sym, refl, ◌∙◌}
 use Rattle.std.proofs.lemmas.List.{drop_all, drop_more, take-append-drop, take_more, take_rest}
 use Rattle.std.proofs.lemmas.Str.{IsCharBoundary-before_ascii}
+use Rattle.std.proofs.lemmas.Bool.{and_parts}
 use Rattle.std.specs.Str.{IsCharBoundary}
 use Rattle.rl_lint.specs.Stems.{is_ending, is_none, stem}
 
@@ -50,13 +51,9 @@ rest_ending name i b is = is ∙ ap is_ending (take_rest name i)
 
 pub ruleset cut = (rest_ending)
 
-first_true : (a b : Bool) → a && b ≡ true → a ≡ true
-first_true true b is = refl
-first_true false b is = is
-
 begins : (c : ℕ) (cs : List ℕ) → is_ending (c ∷ cs) ≡ true → c ≡ 95
 unfolding is_ending
-begins c cs is = eqb-true c 95 (first_true (nat_eq c 95) (not (is_none cs)) (first_true (nat_eq c 95 && not (is_none cs)) _ is))
+begins c cs is = eqb-true c 95 (and_parts (nat_eq c 95) (not (is_none cs)) (and_parts (nat_eq c 95 && not (is_none cs)) _ is).0).0
 
 -- An ending begins at a boundary of characters.
 pub boundary : (name : List ℕ) (i : ℕ) → i < length name → is_ending (drop i name) ≡ true → IsCharBoundary name i

@@ -1,8 +1,9 @@
 -- Lowered heads of loops over keys or values have the runs of the source, where nothing of them was refused: a variable or a property takes
 -- a value.
-use Rattle.std.proofs.Common.{◌≡◌, ℕ, ◌||◌, ◌++◌, Bool, true, false, true≢false, if◌then◌else◌, List, [], length}
+use Rattle.std.proofs.Common.{◌≡◌, ℕ, ◌++◌, Bool, true, false, if◌then◌else◌, List, [], length}
 use Rattle.std.proofs.Common.{Option, Some, refl}
 use Rattle.std.proofs.Common.{sym, ap, ◌∙◌}
+use Rattle.std.proofs.lemmas.Bool.{or_parts}
 use Rattle.rl_base.specs.declared.ids.SymbolId.{SymbolId}
 use Rattle.rl_builder.specs.Builder.{State}
 use Rattle.rl_hir.specs.Pieces.{Piece}
@@ -76,10 +77,6 @@ declared_meant scene names at there bind kind name type symbol same is plain v =
     sym (ap (λ (b : Bool). if b then no_meaning else declare (scene.names.declared bind.id.0) v) plain
     ∙ ap (λ (o : Option SymbolId). declare o v) (ap (λ (n : Names). n.declared bind.id.0) same ∙ is))
 
-unused_kind : (kind : Bool) (rest : Bool) → kind || rest ≡ false → kind ≡ false
-unused_kind true rest is = absurd (true≢false is)
-unused_kind false rest is = refl
-
 pattern_head : (scene : Scene) (at : At) (w : Word) (fields : Pieces) → is_pattern (Node at w fields) ≡ true → (v : Value)
     → assign_to scene (Node at w fields) v ≡ take_head scene (Node at w fields) v
 pattern_head scene at word.Arraytarget fields is v = refl
@@ -92,7 +89,7 @@ pub head_runs : {names : Names} {value : Place} {e : Syntax} {s t : State} {p : 
 head_runs {names} {value} (Declared at there bind kind name type symbol identifier s annotated is f) none unused scene same ported takes =
     pattern_same scene.world s _ value.identifier.0
     (λ v ways k source answers. ap (λ (d : Action (Unit {0})). d ways (λ end. k) source answers)
-    (declared_meant scene names at there bind kind name type symbol same is (unused_kind (is_using kind) _ unused) v))
+    (declared_meant scene names at there bind kind name type symbol same is (or_parts (is_using kind) _ unused).0 v))
     (variable_pattern scene.world s (found_again names s symbol identifier bind.span) symbol.0 kinds.Let
     (record { identifier = record { 0 = identifier }; span = Some at.span }) value (Some at.span)
     (blocks_found_again names s symbol bind.span identifier f).extends refl f.bound)
@@ -124,7 +121,7 @@ head_runs {names} {value} (StoredMember at w fields parts pieces object key s t 
 head_runs {names} {value} (DeclaredPattern at there kind pattern s t p is d) none unused scene same ported takes =
     pattern_same scene.world s t value.identifier.0
     (λ v ways k source answers. sym (ap (λ (b : Bool). (if b then no_meaning else patterns.bind scene true pattern v) ways (λ end. k) source answers)
-    (unused_kind (is_using kind) _ unused)))
+    (or_parts (is_using kind) _ unused).0))
     (binding_runs d (first_none (refusals names pattern) [] (first_none (refusals names pattern ++ []) [] none)) scene same ported takes true)
 head_runs {names} {value} (StoredPattern at w fields s t p is d) none unused scene same ported takes =
     pattern_same scene.world s t value.identifier.0

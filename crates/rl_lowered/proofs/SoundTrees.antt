@@ -1,6 +1,6 @@
 -- The parts of a small tree are small.
-use Rattle.std.proofs.Common.{◌≡◌, ℕ, ◌≤◌, Bool, true, false, ◌&&◌, nat_le, List, refl, sym, subst, arith}
-use Rattle.std.proofs.lemmas.Bool.{leb-true}
+use Rattle.std.proofs.Common.{◌≡◌, ℕ, ◌≤◌, true, nat_le, List, sym, subst, arith}
+use Rattle.std.proofs.lemmas.Bool.{leb-true, and_parts}
 use Rattle.rl_text.specs.Number.{largest}
 use Rattle.rl_text.specs.Numeral.{is_numeral, number_of}
 use Rattle.rl_syntax.specs.Syntax.{Syntax, Node, Listed, Said, Count, Flag, Absent, Pieces, End, Then, span_of}
@@ -19,11 +19,7 @@ first_small trees rest tree is small =
 pub numeral_fits : (text : List ℕ) (number : ℕ) → is_numeral text ≡ true → number ≡ number_of text → number ≤ largest
 numeral_fits text number is same =
     subst (λ (n : ℕ). n ≤ largest) (sym same)
-    (leb-true (number_of text) largest (first_true (nat_le (number_of text) largest) _ is))
-  where
-    first_true : (a b : Bool) → a && b ≡ true → a ≡ true
-    first_true true b e = refl
-    first_true false b e = e
+    (leb-true (number_of text) largest (and_parts (nat_le (number_of text) largest) _ is).0)
 
 -- The spans of a small tree's nodes are small.
 mutual

@@ -2,6 +2,7 @@
 use Rattle.std.proofs.Common.{◌≡◌, ℕ, ◌++◌, ◌||◌, Bool, true, false, not, cond, if◌then◌else◌, List, [], ◌∷◌, length, filter, All}
 use Rattle.std.proofs.Common.{Some, None, Result, Ok, refl, ap, ◌∙◌, subst}
 use Rattle.std.proofs.lemmas.List.Elements.{All-append, All-cons, All-head, All-nil, All-tail}
+use Rattle.std.proofs.lemmas.Bool.{not-true}
 use Rattle.std.specs.List.{list_any}
 use Rattle.std.specs.Str.{bytes_eq}
 use Rattle.rl_base.specs.declared.ids.BlockId.{BlockId}
@@ -55,10 +56,6 @@ by_either false b R one other is = other is
 pub all_if : {X : Type 0} (P : X → Type 0) (b : Bool) (xs : List X) → (b ≡ true → All P xs) → All P (if b then xs else [])
 all_if P true xs all = all refl
 all_if P false xs all = All-nil P
-
-negated : (b : Bool) → not b ≡ true → b ≡ false
-negated true is = let never : false ≡ true = is in absurd (cc)
-negated false is = refl
 
 -- Jumps whose targets are led to.
 
@@ -244,7 +241,7 @@ module _ (led : ℕ → Type 0) (outer : List JumpScope) (own : Label) (again be
       labeled_left : (label : List ℕ) (l : Label) → not (is_unlabeled l) ≡ true → not (is_labeled label l) ≡ true
           → is_own (Some label) l ≡ false
       labeled_left label None is other = let never : false ≡ true = is in absurd (cc)
-      labeled_left label (Some l) is other = negated (bytes_eq label l) other
+      labeled_left label (Some l) is other = not-true (bytes_eq label l) other
 
       by_own : (label : Label) → ((x l : Label) → takes_break l (scopes.Loop x again behind) ≡ is_own x l)
           → All (BreakLeads led (outer ++ scopes.Loop label again behind ∷ [])) body.breaks
@@ -265,7 +262,7 @@ module _ (led : ℕ → Type 0) (outer : List JumpScope) (own : Label) (again be
   others_continue : All (ContinueLeads led outer) (filter (λ l. not (is_own own l)) body.continues)
   others_continue =
       all_kept (λ l. not (is_own own l)) (ContinueLeads led inner) (ContinueLeads led outer)
-      (λ l is leads. continue_left led outer (scopes.Loop own again behind) l (continue_own own l ∙ negated (is_own own l) is) leads)
+      (λ l is leads. continue_left led outer (scopes.Loop own again behind) l (continue_own own l ∙ not-true (is_own own l) is) leads)
       body.continues continues
 
   pub loop_continues : (falls : Bool) → All (ContinueLeads led outer) (outs_by own (loop_outs own falls body)).continues
@@ -330,11 +327,11 @@ module _ (led : ℕ → Type 0) (outer : List JumpScope) (own : List ℕ) (behin
   pub label_breaks : All (BreakLeads led outer) (labeled_outs own body).breaks
   label_breaks =
       all_kept (λ l. not (is_labeled own l)) (BreakLeads led in_label) (BreakLeads led outer)
-      (λ l is leads. break_left led outer (scopes.Label own behind) l (takes_own l ∙ negated (is_labeled own l) is) leads) body.breaks
+      (λ l is leads. break_left led outer (scopes.Label own behind) l (takes_own l ∙ not-true (is_labeled own l) is) leads) body.breaks
       breaks
 
   pub label_continues : All (ContinueLeads led outer) (labeled_outs own body).continues
   label_continues =
       all_kept (λ l. not (is_labeled own l)) (ContinueLeads led in_label) (ContinueLeads led outer)
-      (λ l is leads. continue_left led outer (scopes.Label own behind) l (takes_astray l ∙ negated (is_labeled own l) is) leads)
+      (λ l is leads. continue_left led outer (scopes.Label own behind) l (takes_astray l ∙ not-true (is_labeled own l) is) leads)
       body.continues continues

@@ -3,13 +3,14 @@ use Rattle.std.proofs.Common.{◌≡◌, ℕ, zero, suc, ◌+◌, ◌-◌, ◌*�
 use Rattle.std.proofs.Math.Nat.{pow-succ'}
 use Rattle.std.proofs.lemmas.Bool.Decides.{nat_tests}
 use Rattle.std.proofs.lemmas.Fmt.{decimal_digit, length-decimal-le}
+use Rattle.std.proofs.lemmas.Bool.{and_parts}
 use Rattle.std.specs.List.{list_all}
 use Rattle.std.specs.Char.{is_ascii_digit}
 use Rattle.std.specs.Fmt.{decimal, digits, digits_onto, digit_glyph}
 use Rattle.rl_text.specs.Number.{numeral}
 use Rattle.rl_text.specs.Places.{NoDigit}
 use Rattle.rl_text.proofs.Numbers.{read_on}
-use Rattle.rl_text.proofs.Runs.{both, runs-apart}
+use Rattle.rl_text.proofs.Runs.{runs-apart}
 
 -- The last digit of a number.
 abbrev last : ℕ → ℕ
@@ -109,4 +110,4 @@ numeral-first (suc m) = by (numeral (suc m)) refl
   where
     by : (digits : List ℕ) → numeral (suc m) ≡ digits → (d : ℕ) × (ds : List ℕ) × (numeral (suc m) ≡ d ∷ ds) × (is_ascii_digit d ≡ true)
     by [] none = absurd (omega (arith, sym (numeral-value (suc m)) ∙ ap (read_on 0) none))
-    by (d ∷ ds) is = (d, ds, is, (both (is_ascii_digit d) (list_all is_ascii_digit ds) (ap (list_all is_ascii_digit) (sym is) ∙ numeral-digits (suc m))).0)
+    by (d ∷ ds) is = (d, ds, is, (and_parts (is_ascii_digit d) (list_all is_ascii_digit ds) (ap (list_all is_ascii_digit) (sym is) ∙ numeral-digits (suc m))).0)

@@ -4,6 +4,7 @@ use Rattle.std.proofs.lemmas.List.{append-nil, length-take, drop_more}
 use Rattle.std.proofs.lemmas.Str.{IsUtf8-from_ascii}
 use Rattle.std.proofs.lemmas.Str.Ascii.{IsAscii-nil, IsAscii-cons}
 use Rattle.std.proofs.lemmas.Bool.Decides.{nat_tests}
+use Rattle.std.proofs.lemmas.Bool.{and_parts}
 use Rattle.std.specs.List.{list_all}
 use Rattle.std.specs.Char.{is_ascii_digit}
 use Rattle.std.specs.Str.{IsUtf8, IsAscii}
@@ -16,7 +17,7 @@ use Rattle.rl_text.specs.Raw.{tree, parts_of}
 use Rattle.rl_text.specs.Places.{is_letter, StopsAt, NoDigit, IsRun, Begins, NoneBegins, GoesOn, NoneGoesOn, Adds, spelled_parts}
 use Rattle.rl_text.specs.declared.raw.Raw.{Raw}
 use Rattle.rl_text.specs.declared.raw.Raw.TheVariants as V
-use Rattle.rl_text.proofs.Runs.{heads, both, runs-apart, run-there}
+use Rattle.rl_text.proofs.Runs.{heads, runs-apart, run-there}
 use Rattle.rl_text.proofs.Digits.{numeral-decimal}
 use Rattle.rl_text.proofs.Spellings.{form-from_byte, no-form, spellings-apart}
 use Rattle.rl_text.proofs.Worded.{begun, form_of_byte, form-of_digit, no_digit-on, no_letter-on, ends-from_no_digit}
@@ -59,7 +60,7 @@ letter-small c h = grind (arith, nat_tests)
 letters-ascii : (s : List ℕ) → list_all is_letter s ≡ true → IsAscii s
 letters-ascii [] h = IsAscii-nil
 letters-ascii (c ∷ s) h =
-    let b = both (is_letter c) (list_all is_letter s) h in
+    let b = and_parts (is_letter c) (list_all is_letter s) h in
     IsAscii-cons c s (letter-small c b.0) (letters-ascii s b.1)
 
 pub letters-utf8 : (s : List ℕ) → list_all is_letter s ≡ true → IsUtf8 s

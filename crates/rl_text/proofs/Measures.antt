@@ -3,6 +3,7 @@ use Rattle.std.proofs.Common.{◌≡◌, ℕ, ◌+◌, ◌-◌, ◌/◌, ◌%◌
 use Rattle.std.proofs.lemmas.List.{append-nil}
 use Rattle.std.proofs.lemmas.List.Sums.{sum_by-append}
 use Rattle.std.proofs.lemmas.Bool.Decides.{nat_tests}
+use Rattle.std.proofs.lemmas.Bool.{and_parts}
 use Rattle.std.specs.List.{count_by, list_all}
 use Rattle.std.specs.Char.{is_ascii_digit}
 use Rattle.rl_text.specs.Measure.{outside, nodes_in, deepest_from, deepest_in}
@@ -14,7 +15,6 @@ use Rattle.rl_text.specs.Quoted.{hexadecimal, is_escaped, escape, quoted_rest, q
 use Rattle.rl_text.proofs.Measuring.{outside-other, outside-within, opens-cons, opens-other, open_after-other, deepest_from-low}
 use Rattle.rl_text.proofs.Digits.{numeral-digits}
 use Rattle.rl_text.proofs.Quotes.{tested, escape-escaped, escape-plain}
-use Rattle.rl_text.proofs.Runs.{both}
 
 -- Bytes that, wherever they stand outside texts, open `nodes` nodes, at most `deep` of them at once, and close all of them.
 pub record Balanced (bytes : List ℕ) (nodes deep : ℕ) : Type 0 where
@@ -64,19 +64,19 @@ plain-no_close byte h e = grind (arith, nat_tests)
 plain-outside : (s rest : List ℕ) → list_all is_plain s ≡ true → outside false (s ++ rest) ≡ s ++ outside false rest
 plain-outside [] rest h = refl
 plain-outside (byte ∷ s) rest h =
-    let p = both (is_plain byte) _ h in
+    let p = and_parts (is_plain byte) _ h in
     outside-other byte (s ++ rest) (plain-no_quote byte p.0) ∙ ap (λ l. byte ∷ l) (plain-outside s rest p.1)
 
 plain-opens : (s : List ℕ) → list_all is_plain s ≡ true → count_by (λ byte. byte == 40) s ≡ 0
 plain-opens [] h = refl
 plain-opens (byte ∷ s) h =
-    let p = both (is_plain byte) _ h in
+    let p = and_parts (is_plain byte) _ h in
     opens-other byte s (plain-no_open byte p.0) ∙ plain-opens s p.1
 
 plain-reaches : (s rest : List ℕ) (from : ℕ) → list_all is_plain s ≡ true → deepest_from from (s ++ rest) ≡ deepest_from from rest
 plain-reaches [] rest from h = refl
 plain-reaches (byte ∷ s) rest from h =
-    let p = both (is_plain byte) _ h in
+    let p = and_parts (is_plain byte) _ h in
     rw (open_after-other from byte (plain-no_open byte p.0) (plain-no_close byte p.0)) (omega (arith, plain-reaches s rest from p.1, deepest_from-low from rest))
 
 pub balanced-plain : (s : List ℕ) → list_all is_plain s ≡ true → Balanced s 0 0
@@ -132,7 +132,7 @@ digit-plain byte h = grind (arith, nat_tests)
 
 all-plain : (test : ℕ → Bool) → ((byte : ℕ) → test byte ≡ true → is_plain byte ≡ true) → (s : List ℕ) → list_all test s ≡ true → list_all is_plain s ≡ true
 all-plain test plain [] h = refl
-all-plain test plain (byte ∷ s) h = let p = both (test byte) _ h in rw (plain byte p.0, all-plain test plain s p.1) refl
+all-plain test plain (byte ∷ s) h = let p = and_parts (test byte) _ h in rw (plain byte p.0, all-plain test plain s p.1) refl
 
 pub balanced-word : (word : List ℕ) → list_all is_letter word ≡ true → Balanced word 0 0
 balanced-word word h = balanced-plain word (all-plain is_letter letter-plain word h)

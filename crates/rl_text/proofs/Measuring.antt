@@ -3,10 +3,11 @@ use Rattle.std.proofs.Common.{◌≡◌, sym, subst, ◌++◌, ap, ◌∙◌, ta
 use Rattle.std.proofs.lemmas.List.{drop_more, drop_all}
 use Rattle.std.proofs.lemmas.List.Sums.{sum_by-cons}
 use Rattle.std.proofs.lemmas.Bool.Decides.{nat_tests}
+use Rattle.std.proofs.lemmas.Bool.{and_parts}
 use Rattle.std.specs.List.{count_by, list_all}
 use Rattle.std.specs.Ordering.{ord_max}
 use Rattle.rl_text.specs.Places.{StopsAt, IsRun}
-use Rattle.rl_text.proofs.Runs.{both, run-there}
+use Rattle.rl_text.proofs.Runs.{run-there}
 use Rattle.rl_text.specs.Measure.{outside, open_after, deepest_from}
 use Rattle.rl_text.specs.ByteClasses.{is_inside}
 
@@ -23,7 +24,7 @@ outside-within byte bytes h = grind (arith, nat_tests)
 inside-run : (run rest : List ℕ) → list_all is_inside run ≡ true → outside true (run ++ rest) ≡ outside true rest
 inside-run [] rest h = refl
 inside-run (byte ∷ run) rest h =
-    let p = both (is_inside byte) _ h in
+    let p = and_parts (is_inside byte) _ h in
     let other : byte ≡ 34 → ⊥ = λ e. grind (arith, nat_tests, p.0) in outside-within byte (run ++ rest) other ∙ inside-run run rest p.1
 
 -- The bytes of a text up to its quote are left out, and so are those of a text that no quote closes.

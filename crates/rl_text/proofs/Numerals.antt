@@ -4,10 +4,10 @@ use Rattle.std.specs.Str.{bytes_eq}
 use Rattle.std.specs.Fmt.{decimal}
 use Rattle.std.proofs.lemmas.Slice.Eq.{bytes_eq-Decides}
 use Rattle.std.proofs.lemmas.Bool.Decides.{nat_tests}
+use Rattle.std.proofs.lemmas.Bool.{and_parts}
 use Rattle.rl_text.specs.Number.{largest}
 use Rattle.rl_text.specs.WrittenNumbers.{IsNumeral}
 use Rattle.rl_text.specs.Numeral.{number_on, number_of, is_numeral}
-use Rattle.rl_text.proofs.Runs.{both}
 use Rattle.rl_text.proofs.Numbers.{read_on, numeral-value}
 
 same : (n : ℕ) (digits : List ℕ) → number_on n digits ≡ read_on n digits
@@ -27,7 +27,7 @@ numeral-passes text n h =
 
 pub numeral-from_test : (text : List ℕ) → is_numeral text ≡ true → IsNumeral text (number_of text)
 numeral-from_test text h =
-    let parts = both (nat_le (number_of text) largest) _ h in
+    let parts = and_parts (nat_le (number_of text) largest) _ h in
     record { bounded = grind (arith, nat_tests, parts.0); written = (bytes_eq-Decides text (decimal (number_of text))).0 parts.1 }
 
 cases : (b : Bool) (x : ℕ) (r : Option ℕ) → (b ≡ true → r ≡ Some x) → (b ≡ false → r ≡ None) → r ≡ (if b then Some x else None)

@@ -6,10 +6,11 @@ use Rattle.std.specs.List.{list_all}
 use Rattle.std.specs.Str.{IsUtf8}
 use Rattle.std.proofs.lemmas.Str.{IsUtf8-append, IsUtf8-from_ascii}
 use Rattle.std.proofs.lemmas.Str.Ascii.{IsAscii-cons, IsAscii-nil}
+use Rattle.std.proofs.lemmas.Bool.{and_parts}
 use Rattle.rl_text.specs.Quoted.{hexadecimal, is_escaped, escape, quoted_rest}
 use Rattle.rl_text.specs.ByteClasses.{is_plain}
 use Rattle.rl_text.specs.Places.{IsRun}
-use Rattle.rl_text.proofs.Runs.{heads, both, run-there}
+use Rattle.rl_text.proofs.Runs.{heads, run-there}
 
 pub hexadecimal-injective : (a b : ℕ) → hexadecimal a ≡ hexadecimal b → a < 16 → b < 16 → a ≡ b
 hexadecimal-injective a b h p q = grind (arith, nat_tests)
@@ -91,15 +92,15 @@ plain-escape byte h = escape-plain byte (not-true (is_escaped byte) h)
 pub quoted-plain : (run rest : List ℕ) → list_all is_plain run ≡ true → quoted_rest (run ++ rest) ≡ run ++ quoted_rest rest
 quoted-plain [] rest h = refl
 quoted-plain (byte ∷ run) rest h =
-    let p = both (is_plain byte) _ h in
+    let p = and_parts (is_plain byte) _ h in
     rw (plain-escape byte p.0) (ap (λ l. byte ∷ l) (quoted-plain run rest p.1))
 
 -- Behind a run of plain bytes, a text goes on.
 pub quoted-behind : (run u text v : List ℕ) → list_all is_plain run ≡ true → run ++ u ≡ quoted_rest text ++ v → (more : List ℕ) × (u ≡ quoted_rest more ++ v)
 quoted-behind [] u text v h e = (text, e)
-quoted-behind (byte ∷ run) u [] v h e = absurd (escape-no_quote byte v (run ++ u) (sym e ∙ sym (ap (λ l. l ++ (run ++ u)) (plain-escape byte (both (is_plain byte) _ h).0))))
+quoted-behind (byte ∷ run) u [] v h e = absurd (escape-no_quote byte v (run ++ u) (sym e ∙ sym (ap (λ l. l ++ (run ++ u)) (plain-escape byte (and_parts (is_plain byte) _ h).0))))
 quoted-behind (byte ∷ run) u (c ∷ text) v h e =
-    let p = both (is_plain byte) _ h in
+    let p = and_parts (is_plain byte) _ h in
     quoted-behind run u text v p.1 (escapes-apart byte c (run ++ u) (quoted_rest text ++ v) (ap (λ l. l ++ (run ++ u)) (plain-escape byte p.0) ∙ e ∙ append_assoc (escape c) (quoted_rest text) v)).1
 
 -- A text behind a dot is text.

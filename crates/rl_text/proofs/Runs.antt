@@ -1,27 +1,24 @@
 -- Runs of bytes that pass a test.
-use Rattle.std.proofs.Common.{◌≡◌, ℕ, ◌+◌, ◌-◌, ◌<◌, ◌≤◌, Bool, true, false, ◌&&◌, List, [], ◌∷◌, ◌++◌, length, take, drop, get_or, ap, sym, ◌∙◌, refl, arith, subst, true≢false}
+use Rattle.std.proofs.Common.{◌≡◌, ℕ, ◌+◌, ◌-◌, ◌<◌, ◌≤◌, Bool, true, List, [], ◌∷◌, ◌++◌, length, take, drop, get_or, ap, sym, ◌∙◌, refl, arith, subst, true≢false}
 use Rattle.std.specs.List.{list_all}
 use Rattle.std.proofs.lemmas.List.Folds.{list_all-append}
 use Rattle.std.proofs.lemmas.List.{drop_more, take-append-drop, drop-drop}
 use Rattle.std.proofs.Math.Seq.{take-add}
+use Rattle.std.proofs.lemmas.Bool.{and_parts}
 use Rattle.rl_text.specs.Places.{StopsAt, IsRun}
 
 pub heads : (a b : ℕ) (x y : List ℕ) → a ∷ x ≡ b ∷ y → (a ≡ b) × (x ≡ y)
 heads a b x y h = (cc, cc)
 
-pub both : (a b : Bool) → (a && b) ≡ true → (a ≡ true) × (b ≡ true)
-both true b h = (refl, h)
-both false b h = absurd (true≢false (sym h))
-
 module _ (test : ℕ → Bool) where
   -- A run and what stops it are determined.
   pub runs-apart : (s t u v : List ℕ) → list_all test s ≡ true → list_all test t ≡ true → StopsAt test u → StopsAt test v → s ++ u ≡ t ++ v → (s ≡ t) × (u ≡ v)
   runs-apart [] [] u v p q m n h = (refl, h)
-  runs-apart [] (d ∷ t) u v p q m n h = absurd (true≢false (sym (both (test d) _ q).0 ∙ subst (StopsAt test) h m))
-  runs-apart (c ∷ s) [] u v p q m n h = absurd (true≢false (sym (both (test c) _ p).0 ∙ subst (StopsAt test) (sym h) n))
+  runs-apart [] (d ∷ t) u v p q m n h = absurd (true≢false (sym (and_parts (test d) _ q).0 ∙ subst (StopsAt test) h m))
+  runs-apart (c ∷ s) [] u v p q m n h = absurd (true≢false (sym (and_parts (test c) _ p).0 ∙ subst (StopsAt test) (sym h) n))
   runs-apart (c ∷ s) (d ∷ t) u v p q m n h =
       let e = heads c d (s ++ u) (t ++ v) h in
-      let rest = runs-apart s t u v (both (test c) _ p).1 (both (test d) _ q).1 m n e.1 in
+      let rest = runs-apart s t u v (and_parts (test c) _ p).1 (and_parts (test d) _ q).1 m n e.1 in
       ((λ i. e.0 i ∷ rest.0 i), rest.1)
 
   -- The bytes from one offset to another pass the test.

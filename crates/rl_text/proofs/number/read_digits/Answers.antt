@@ -1,9 +1,9 @@
 use Rattle.std.proofs.Common.{◌≡◌, ◌+◌, ◌-◌, ◌*◌, ◌<◌, true, [], ◌&&◌, length, drop, get_or, ap, sym, ◌∙◌, arith, true≢false}
 use Rattle.std.proofs.lemmas.List.{drop_more}
 use Rattle.std.proofs.Math.ListN.{drop_of_length-le}
+use Rattle.std.proofs.lemmas.Bool.{and_parts}
 use Rattle.std.specs.List.{list_all}
 use Rattle.std.specs.Char.{is_ascii_digit}
-use Rattle.rl_text.proofs.Runs.{both}
 use Rattle.rl_text.proofs.Numbers.{read_on, read_on-grows, numeral-from_value, numeral-digits, numeral-value, numeral-some, numeral-no_zero}
 use Rattle.rl_text.proofs.number.read_digits.Goals as goal
 use Rattle.rl_text.proofs.number.read_digits.Goals.{else-text-gt1-via-then-text-gt1+else-text-eq48, else-text-gt1-via-else-text-gt1}
@@ -22,7 +22,7 @@ returns-then-not-is_ascii_digit-clause-none c n h =
     let i = c.read.digit-index in
     let more = drop_more text i 0 c.read-test.true in
     let all : list_all is_ascii_digit (drop i text) ≡ true = c.read.invariant.digits ∙ numeral-digits text n h in
-    let here = both (is_ascii_digit (get_or text i 0)) _ (ap (list_all is_ascii_digit) (sym more) ∙ all) in
+    let here = and_parts (is_ascii_digit (get_or text i 0)) _ (ap (list_all is_ascii_digit) (sym more) ∙ all) in
     true≢false (sym here.0 ∙ sym c.is_ascii_digit.ensures.value ∙ c.if-not-is_ascii_digit.true)
 
 pub read-preserved : goal.read-preserved
