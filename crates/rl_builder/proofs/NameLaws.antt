@@ -27,18 +27,18 @@ use Rattle.rl_used_names.specs.IdentifierNames.{name_of, fbt, AreNamed}
 use Rattle.rl_used_names.specs.UsedName.{user_of}
 use Rattle.rl_hir.specs.Pairs.{pair}
 
--- a symbol that has an identifier keeps it
+-- A symbol that has an identifier keeps it.
 pub resolved_by-known : (known : Option ℕ) (s : State) (name : List ℕ) (symbol : ℕ) (given : Option Span) (identifier : ℕ) → known ≡ Some identifier → with_refused known s name (fbt_label s symbol given) ≡ resolved_by known s name symbol given
 resolved_by-known None s name symbol given identifier some = absurd (none-some identifier some)
 resolved_by-known (Some known) s name symbol given identifier some = refl
 
--- one that has none gets one
+-- A symbol that has no identifier gets one.
 pub resolved_by-fresh : (known : Option ℕ) (s : State) (name : List ℕ) (symbol : ℕ) (given : Option Span) → known ≡ None → with_binding (with_refused known s name (fbt_label s symbol given)) name symbol given ≡ resolved_by known s name symbol given
 resolved_by-fresh None s name symbol given none = refl
 resolved_by-fresh (Some known) s name symbol given none = absurd (none-some known (sym none))
 
--- an identifier that was made after the references were renamed, noted beside its symbol and then named is a fresh one of that
--- name
+-- An identifier that was made after the references were renamed, noted beside its symbol and then named is a fresh one of that
+-- name.
 pub env_resolved-fresh : (old changed made noted named : Environment) (symbol : SymbolId) (identifier : IdentifierId) (free : List ℕ) (span : Option Span) (renames : List Rename)
     → changed ≡ record old { renames = old.renames ++ renames }
     → made ≡ one_identifier_more changed span
@@ -55,7 +55,7 @@ env_resolved-fresh old changed made noted named symbol identifier free span rena
     ∙ ap (λ place. after (changed_at (with_name (names.Named free)) place (old.identifiers ++ unnamed ∷ [])) place) (is_next ∙ ap (λ (e : Environment). length e.identifiers) is_changed)
     ∙ ap (λ identifiers. after identifiers (length old.identifiers)) (changed_at-last (with_name (names.Named free)) old.identifiers unnamed)
 
--- the identifier of the symbol afterwards
+-- The identifier of the symbol afterwards.
 pub identifier_of-resolved : (s : State) (name : List ℕ) (symbol : ℕ) (given : Option Span) → identifier_of (resolved s name symbol given).bindings symbol ≡ Some (resolved_identifier s symbol)
 identifier_of-resolved s name symbol given = by (identifier_of s.bindings symbol) refl
   where
@@ -63,7 +63,7 @@ identifier_of-resolved s name symbol given = by (identifier_of s.bindings symbol
     by None none = identifier_of-last s.bindings symbol (length s.env.identifiers) none
     by (Some old) some = some
 
--- at most one identifier is made, of a type of its own
+-- At most one identifier is made, of a type of its own.
 pub record OneMore (old new : Environment) : Type 0 where
   pub identifiers : length new.identifiers ≤ length old.identifiers + 1
   pub kept : length old.identifiers ≤ length new.identifiers
@@ -90,7 +90,7 @@ with_refused-reserved known s name label reserved = ap (λ (ds : List Diagnostic
 pub reserved-unchanged : (known : Option ℕ) (s new : State) (name : List ℕ) (label : Span) → new ≡ with_refused known s name label → is_reserved name ≡ true → new ≡ s
 reserved-unchanged known s new name label is reserved = is ∙ with_refused-reserved known s name label reserved
 
--- names and identifiers agree in the beginning where those that are given do, and after each resolution and temporary
+-- Names and identifiers agree in the beginning where those that are given do, and after each resolution and temporary.
 pub NamesAgree-started : (env : Environment) (given : Given) (kind : BlockKind) → AreNamed given.bindings given.used_names env.identifiers → NamesAgree (started env given kind)
 NamesAgree-started env given kind agree = agree
 
@@ -109,7 +109,7 @@ NamesAgree-resolved s name symbol given small agree = by (identifier_of s.bindin
     by None = NamesAgree-with_binding s name symbol given (chosen-free s.used_names symbol name small) agree
     by (Some old) = agree
 
--- symbols whose identifiers have one name are one
+-- Symbols whose identifiers have one name are one.
 pub name_of-injective : (s : State) → NamesAgree s → (a b i j : ℕ) → identifier_of s.bindings a ≡ Some i → identifier_of s.bindings b ≡ Some j → name_of s.env.identifiers i ≡ name_of s.env.identifiers j → a ≡ b
 name_of-injective s agree a b i j has_i has_j same =
     let one = agree.named a i has_i in
@@ -120,6 +120,6 @@ name_of-injective s agree a b i j has_i has_j same =
     by : (x y : List ℕ) → Some (names.Named x) ≡ Some (names.Named y) → x ≡ y
     by x y e = cc
 
--- hence no two symbols have identifiers of one name
+-- No two symbols have identifiers of one name.
 pub names-differ : (s : State) → NamesAgree s → (a b i j : ℕ) → a ≢ b → identifier_of s.bindings a ≡ Some i → identifier_of s.bindings b ≡ Some j → name_of s.env.identifiers i ≢ name_of s.env.identifiers j
 names-differ s agree a b i j differ has_i has_j same = differ (name_of-injective s agree a b i j has_i has_j same)

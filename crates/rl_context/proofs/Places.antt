@@ -7,7 +7,7 @@ use Rattle.rl_context.specs.declared.site.IdentEntry.{IdentEntry}
 use Rattle.rl_semantic.specs.Buckets.{same, first_at}
 use Rattle.rl_semantic.specs.Items.{of_item}
 
--- One more place without an entry.
+-- Another place without an entry.
 pub place_added : (entries : List (Option IdentEntry)) (n : ℕ) → first_at (entries ++ None ∷ []) n ≡ first_at entries n
 place_added [] zero = refl
 place_added [] (suc n) = refl

@@ -51,7 +51,7 @@ if_unread s s2 s3 s4 test span part other gc ga gt kc ka kt =
         (unread_then s2 (next_hole s2 n gotos.Break part block.Block) s3 (omega arith) ga.blocks refl
         (unread_next s2 n gotos.Break part block.Block) ka)
 
--- One branch.
+-- An `if` with one branch.
 pub if_then_unread : (s s2 s4 : State) (test : Place) (span part : Span) → Extends (if_begun s) s2
     → Extends (last_hole s2 s.env.next_block gotos.Break part s.current) s4 → KeepsUnread (if_begun s) s2
     → KeepsUnread (last_hole s2 s.env.next_block gotos.Break part s.current) s4

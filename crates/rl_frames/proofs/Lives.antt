@@ -127,7 +127,7 @@ module _ (s s2 s3 s4 : State) (test : Place) (span part other : Span)
             (lb.continues c (cover3 c cover) entry (at_alternate c cover entry r));
       }
 
--- One branch, behind a test that completes.
+-- An `if` with one branch, behind a test that completes.
 pub if_then_leaves : (s s2 s4 : State) (test : Place) (span part : Span) (a : Outs)
     → Extends (last_hole s2 s.env.next_block gotos.Break part s.current) s4
     → Passes (last_hole s2 s.env.next_block gotos.Break part s.current) s4 → Leaves a (if_begun s) s2

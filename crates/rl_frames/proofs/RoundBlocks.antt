@@ -48,7 +48,7 @@ pub record IsHead (s y s5 : State) : Type 0 where
   pub settle : Settling y s5
   pub looped : Looping y s5
   pub passes : Passes y s5
-  -- the init settles by itself, since a step of the loop asks
+  -- The init settles by itself, since a step of the loop asks.
   pub asks : (c : Code) → IsContainedIn s5 c → Settles c (s.env.next_block + 1) 0
 
 -- From `s` to the state `y` in the init.

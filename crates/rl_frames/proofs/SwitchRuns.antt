@@ -78,7 +78,7 @@ fall_follows ways behind n [] (m ∷ ms) all last = absurd all
 fall_follows ways behind n (k ∷ cases) [] all last = absurd all
 fall_follows ways behind n (k ∷ cases) (m ∷ ms) all last = all.0
 
--- One more case.
+-- Another case of a `switch`.
 module _ (s x y : State) (own : Label) (cases : List Case) (part : Span) where
   abbrev n : ℕ
   n = s.env.next_block

@@ -37,13 +37,13 @@ set_other items place i item apart =
       | inr past ↦ slice_get_past (slice_set items place item) i (subst (λ n. n ≤ i) (sym long) past) ∙ sym (slice_get_past items i past)
     ]
 
--- the entry that is changed
+-- The entry that is changed.
 pub slice_get-changed_at_same : {X : Type 0} (change : X → X) (place : ℕ) (items : List X) (item : X) → slice_get items place ≡ Some item → slice_get (changed_at change place items) place ≡ Some (change item)
 slice_get-changed_at_same change place items item at =
     ap (λ xs. slice_get xs place) (changed_at-set change place items item at)
     ∙ set_same items place (change item) (slice_get_within items place item at)
 
--- all others
+-- All other entries.
 pub slice_get-changed_at_other : {X : Type 0} (change : X → X) (place i : ℕ) (items : List X) → i ≢ place → slice_get (changed_at change place items) i ≡ slice_get items i
 slice_get-changed_at_other change place i items apart = elim (item-or-none (slice_get items place)) [
   | inl here ↦ ap (λ xs. slice_get xs i) (changed_at-set change place items here.0 here.1) ∙ set_other items place i (change here.0) apart

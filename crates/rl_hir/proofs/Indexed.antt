@@ -226,7 +226,7 @@ id_either [] p (suc index) id e = absurd (cc)
 id_either (q ∷ pairs) p zero id e = inl e
 id_either (q ∷ pairs) p (suc index) id e = elim (id_either pairs p index id e) [ inl l ↦ inl l | inr r ↦ inr (ap suc r.0, r.1) ]
 
--- One more pair, of an id for which the table had no index.
+-- Another pair, of an id for which the table had no index.
 pub appended : (table after : PairIndices) (pairs : List Pair) (id : BlockId) (block : BasicBlock) → IsIndexed table pairs → index_of table id.0 ≡ None
     → ((other : ℕ) → index_of after other ≡ (if nat_eq other id.0 then Some (length pairs) else index_of table other)) → IsIndexed after (pairs ++ (id, block) ∷ [])
 appended table after pairs id block h fresh indices = record { placed = placed; found = found }

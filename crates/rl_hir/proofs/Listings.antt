@@ -21,7 +21,7 @@ separated_true (Then first rest) = refl
 abbrev trees : List Pair → Parts
 trees pairs = parts_of (map block pairs)
 
--- One more block is written, with the gap in front of it.
+-- Another block is written, with the gap in front of it.
 pub block_written : (old gapped new all : List ℕ) (apart : Bool) (pairs : List Pair) (place : ℕ) (p : Pair) → slice_get pairs place ≡ Some p
     → gapped ≡ old ++ gap apart → new ≡ gapped ++ spelling (block p) → old ++ separated apart (trees (drop place pairs)) ≡ all
     → new ++ separated true (trees (drop (place + 1) pairs)) ≡ all

@@ -14,7 +14,7 @@ use Rattle.rl_hir.specs.declared.instruction.PrimitiveValue.TheVariants as primi
 use Rattle.rl_hir.specs.declared.instruction.PropertyLiteral.{PropertyLiteral}
 use Rattle.rl_hir.specs.declared.instruction.PropertyLiteral.TheVariants as keys
 
--- the parts of a tree
+-- The parts of a tree.
 
 abbrev pub word_of : Tree → List ℕ
 word_of (Node word parts) = word
@@ -53,7 +53,7 @@ pub optional_of : {X : Type 0} → (Tree → X) → Tree → Option X
 optional_of read Absent = None
 optional_of read tree = Some (read tree)
 
--- the tree says that something is there
+-- The tree says that something is there.
 abbrev pub IsPresent : Tree → Type 0
 IsPresent Absent = ⊥
 IsPresent tree = Unit {0}
@@ -90,7 +90,7 @@ abbrev pub choose : {X : Type 0} → List ℕ → List (List ℕ × X) → X →
 choose word [] other = other
 choose word (row ∷ rows) other = if bytes_eq word row.0 then row.1 else choose word rows other
 
--- each type
+-- Each type.
 
 pub span_of : Tree → Span
 span_of tree = record { start = number_of (part 0 tree); end = number_of (part 1 tree) }

@@ -22,7 +22,7 @@ use Rattle.rl_hir.specs.declared.instruction.PropertyLiteral.{PropertyLiteral}
 use Rattle.rl_hir.specs.declared.instruction.InstructionValue.{InstructionValue}
 use Rattle.rl_hir.specs.declared.instruction.InstructionValue.TheVariants as values
 
--- the parts of an event's listing
+-- The parts of an event's listing.
 
 abbrev texts : Tree → Parts
 texts tree = parts_in (part 0 tree)

@@ -53,7 +53,7 @@ gathered-from : {X : Type 0} (pieces : X → List Piece) (items : List X) (index
     → gathered pieces (drop index items) ≡ pieces item ++ gathered pieces (drop (index + 1) items)
 gathered-from pieces items index item below is = ap (gathered pieces) (drop_more items index item below ∙ ap (λ x. x ∷ drop (index + 1) items) (sym is))
 
--- One more item was written.
+-- Another item was written.
 pub rows_step : {X : Type 0} (pieces : X → List Piece) (row : Row) (items : List X) (index : ℕ) (item : X) (before new : List ℕ) → index < length items → item ≡ get_or items index item
     → new ≡ before ++ spaced (row_parts row (pieces item))
     → new ++ spaced (row_parts row (gathered pieces (drop (index + 1) items))) ≡ before ++ spaced (row_parts row (gathered pieces (drop index items)))

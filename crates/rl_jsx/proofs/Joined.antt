@@ -17,7 +17,7 @@ pub empty-length : (line : List ℕ) → (length line == 0) ≡ is_empty line
 empty-length [] = refl
 empty-length (byte ∷ line) = ne_eqb _ _ (λ e. let none : length (byte ∷ line) ≡ 0 = e in omega arith)
 
--- One more line stands behind a space.
+-- Another line stands behind a space.
 join-behind : (first : List ℕ) (lines : List (List ℕ)) (last : List ℕ) → join_with_byte 32 (first ∷ (lines ++ last ∷ [])) ≡ join_with_byte 32 (first ∷ lines) ++ 32 ∷ last
 join-behind first [] last = refl
 join-behind first (line ∷ lines) last =
@@ -67,7 +67,7 @@ joins-first text first rest joined e made =
       made = made;
     }
 
--- One more line.
+-- Another line.
 pub joins-more : (text joined more rest line after : List ℕ) (j : Joins text joined rest) → split_line_endings rest ≡ line ∷ split_line_endings after
     → more ≡ joined_lines (j.lines ++ without_leading_spaces (without_trailing_spaces line) ∷ []) → Joins text more after
 joins-more text joined more rest line after j e made =

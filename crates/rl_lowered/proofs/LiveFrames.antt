@@ -34,7 +34,7 @@ use Rattle.rl_runs.specs.Moves.{block_id, last_hole, stored_in}
 to_only : (b : BlockId) → list_any (same_id b) (b ∷ []) ≡ true
 to_only b = or_left (same_id b b) false (same_self b)
 
--- One of some elements comes first.
+-- An element of a list that is put first.
 all_ahead : {K : Type 0} (P : K → Type 0) (xs ys : List K) (x : K) → All P (xs ++ x ∷ ys) → All P (x ∷ (xs ++ ys))
 all_ahead P [] ys x all = all
 all_ahead P (y ∷ xs) ys x all =

@@ -208,7 +208,7 @@ apart_marked s x env t next blank more owns k = record {
 
 -- Instructions.
 
--- One that is no step.
+-- An instruction that is no step.
 module _ (s : State) (i : Instruction) (no_step : ReadsNote i → ⊥) where
   fewer : (listed : List InstructionId) → AreIn s.table listed → HasStep (s.table ++ i ∷ []) listed → HasStep s.table listed
   fewer listed below h =

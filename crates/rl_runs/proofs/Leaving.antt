@@ -38,7 +38,7 @@ module _ {X : Type 0} (p : X → Bool) (P Q : X → Type 0) (on : (x : X) → p 
   all_kept [] all = All-nil Q
   all_kept (x ∷ xs) all = kept_if x (filter p xs) (p x) refl (All-head P x xs all) (all_kept xs (All-tail P x xs all))
 
--- One of the elements for which the test holds.
+-- An element for which the test holds.
 pub some_of : {X : Type 0} (p : X → Bool) (P : X → Type 0) (R : Type 0) → ((x : X) → p x ≡ true → P x → R) → (xs : List X)
     → list_any p xs ≡ true → All P xs → R
 some_of p P R on [] any all = let never : false ≡ true = any in absurd (cc)

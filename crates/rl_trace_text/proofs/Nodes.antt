@@ -8,7 +8,7 @@ use Rattle.rl_text.specs.Raw.{tree, parts_of}
 use Rattle.rl_text.specs.declared.raw.Raw.{Raw}
 use Rattle.rl_trace_text.specs.Reading.{IsShown, NoneIsShown, AreShown, NoneAreShown, Always, IsNarrow}
 
--- what a tree holds
+-- The contents of a tree.
 
 word_of : Tree → List ℕ
 word_of (Node word parts) = word
@@ -128,7 +128,7 @@ module _ {A : Type 0} (shown : A → Tree) (fits : A → Type 0) where
     map_onto [] value rest = refl
     map_onto (first ∷ values) value rest = ap (λ l. shown first ∷ l) (map_onto values value rest)
 
-    -- One more item was read.
+    -- Another item was read.
     pub item_read : (values new : List A) (value : A) → new ≡ values ++ value ∷ [] → shown value ≡ tree item
         → map shown new ++ map tree (drop (index + 1) items) ≡ map shown values ++ map tree (drop index items)
     item_read values new value e same =

@@ -14,7 +14,7 @@ use Rattle.std.specs.Str.{bytes_eq}
 use Rattle.rl_used_names.specs.Choosing.{is_free, IsFree, AllTaken, place_from, free_place, chosen, IsFirstFree}
 use Rattle.rl_used_names.specs.UsedName.{user_of, candidate, UsedName}
 
--- no two candidates of a name are the same
+-- No two candidates of a name are the same.
 pub candidate-injective : (name : List ℕ) (j k : ℕ) → j < 2 ^ 64 → k < 2 ^ 64 → candidate name j ≡ candidate name k → j ≡ k
 candidate-injective name zero zero _ _ same = refl
 candidate-injective name zero (suc k) _ _ same = absurd (omega (arith, ap length same, length-append (name ++ codes "_") (decimal k), length-append name (codes "_")))
@@ -22,7 +22,7 @@ candidate-injective name (suc j) zero _ _ same = absurd (omega (arith, ap length
 candidate-injective name (suc j) (suc k) j_small k_small same =
     ap suc (decimal_injective j k (omega arith) (omega arith) (append_cancel_left (name ++ codes "_") (decimal j) (decimal k) same))
 
--- the candidates before a place
+-- The candidates before a place.
 abbrev tried : List ℕ → ℕ → List (List ℕ)
 tried name zero = []
 tried name (suc place) = candidate name place ∷ tried name place
@@ -44,7 +44,7 @@ unfolding IsDistinct
 tried-distinct name zero small = tt
 tried-distinct name (suc place) small = IsDistinct-cons bytes_eq (candidate name place) (tried name place) (apart name place place (omega arith) (omega arith)) (tried-distinct name place (omega arith))
 
--- a name that is not free has a user
+-- A name that is not free has a user.
 used_name : (used : List UsedName) (symbol : ℕ) (name : List ℕ) → is_free used symbol name ≡ false → IsSome (user_of used name)
 used_name used symbol name taken = by (user_of used name) refl
   where
@@ -60,7 +60,7 @@ tried-used used symbol name (suc place) taken q among = by (bytes_eq q (candidat
     by true same earlier = subst (λ word. IsSome (user_of used word)) (sym ((bytes_eq-Decides _ _).0 same)) (used_name used symbol (candidate name place) (taken place (omega arith)))
     by false other earlier = earlier (rw other at among)
 
--- used names as entries
+-- Used names as entries.
 abbrev entry_of : UsedName → List ℕ × ℕ
 entry_of u = (u.name, u.symbol)
 
@@ -68,14 +68,14 @@ lookup-entry_of : (used : List UsedName) (q : List ℕ) → lookup (bytes_eq q) 
 lookup-entry_of [] q = refl
 lookup-entry_of (u ∷ used) q = ap (λ rest. cond (bytes_eq q u.name) (Some u.symbol) rest) (lookup-entry_of used q)
 
--- there are no more candidates that are taken, one after the other from the first, than used names
+-- The candidates that are taken, one after the other from the first, are no more than the used names.
 pub taken-le-used : (used : List UsedName) (symbol : ℕ) (name : List ℕ) (place : ℕ) → place ≤ 2 ^ 64 → AllTaken used symbol name place → place ≤ length used
 taken-le-used used symbol name place small taken =
     let most = length-le_from_keys nat_list_eq_equiv (tried name place) (map entry_of used) (tried-distinct name place small)
     (λ q among. subst (λ o. IsSome o) (sym (lookup-entry_of used q)) (tried-used used symbol name place taken q among)) in
     omega (arith, most, length-tried name place, length-map used entry_of)
 
--- hence the candidate after as many as there are used names is free
+-- The candidate after as many as there are used names is free.
 pub last-free : (used : List UsedName) (symbol : ℕ) (name : List ℕ) → length used < 2 ^ 64 → AllTaken used symbol name (length used) → IsFirstFree used symbol name (length used)
 last-free used symbol name small taken = record {
   free = true_from_ne_false _ (λ last. let more : length used + 1 ≤ length used = taken-le-used used symbol name (length used + 1) (omega arith) (below_more _ _ taken last) in omega arith);
@@ -94,28 +94,28 @@ place_from-first used symbol name place (suc more) end small taken = by (is_free
     by true free later = record { free = free; taken = taken }
     by false last later = later (below_more _ _ taken last)
 
--- the first free place is free, and no place before it is
+-- The first free place is free, and no place before it is.
 pub free_place-first : (used : List UsedName) (symbol : ℕ) (name : List ℕ) → length used < 2 ^ 64 → IsFirstFree used symbol name (free_place used symbol name)
 free_place-first used symbol name small = place_from-first used symbol name 0 (length used) (omega arith) small (λ before less. absurd (omega arith))
 
--- there is one first place
+-- The first place is unique.
 pub first-unique : (used : List UsedName) (symbol : ℕ) (name : List ℕ) (j k : ℕ) → IsFirstFree used symbol name j → IsFirstFree used symbol name k → j ≡ k
 first-unique used symbol name j k one other =
     let not_below : j < k → ⊥ = λ less. true≢false (sym one.free ∙ other.taken j less) in
     let not_above : k < j → ⊥ = λ less. true≢false (sym other.free ∙ one.taken k less) in
     omega arith
 
--- the candidate at the first free place is the one that is chosen
+-- The candidate at the first free place is the one that is chosen.
 pub chosen-first : (used : List UsedName) (symbol : ℕ) (name : List ℕ) (place : ℕ) → length used < 2 ^ 64 → IsFirstFree used symbol name place → candidate name place ≡ chosen used symbol name
 unfolding chosen
 chosen-first used symbol name place small first = ap (candidate name) (first-unique used symbol name place (free_place used symbol name) first (free_place-first used symbol name small))
 
--- the chosen candidate is free
+-- The chosen candidate is free.
 pub chosen-free : (used : List UsedName) (symbol : ℕ) (name : List ℕ) → length used < 2 ^ 64 → IsFree used symbol (chosen used symbol name)
 unfolding chosen
 chosen-free used symbol name small = (free_place-first used symbol name small).free
 
--- a name that is free is chosen itself
+-- A name that is free is chosen itself.
 pub chosen-own : (used : List UsedName) (symbol : ℕ) (name : List ℕ) → IsFree used symbol name → chosen used symbol name ≡ name
 unfolding chosen
 chosen-own used symbol name free = by (length used)

@@ -13,7 +13,7 @@ use Rattle.rl_used_names.specs.Merged.{merged_bindings, merged_names}
 use Rattle.rl_used_names.specs.IdentifierNames.{name_of, AreNamed, IsNamedFor}
 use Rattle.rl_used_names.specs.UsedName.{user_of, UsedName}
 
--- a name that the first map has stays with its symbol
+-- A name that the first map has stays with its symbol.
 pub AreNamed-merged_names : (bindings : List Pair) (parent child : List UsedName) (identifiers : List Identifier) → AreNamed bindings parent identifiers → AreNamed bindings (merged_names parent child) identifiers
 AreNamed-merged_names bindings parent child identifiers agree = record {
   named = λ symbol identifier some.
@@ -26,13 +26,13 @@ named_merged : (parent child : List Pair) (used : List UsedName) (identifiers : 
 named_merged parent child used identifiers symbol identifier None inner outer none is = inner.named symbol identifier is
 named_merged parent child used identifiers symbol identifier (Some known) inner outer some is = outer.named symbol identifier (some ∙ is)
 
--- a symbol has its identifier from one of the maps
+-- A symbol has its identifier from one of the maps.
 pub AreNamed-merged_bindings : (parent child : List Pair) (used : List UsedName) (identifiers : List Identifier) → AreNamed child used identifiers → AreNamed parent used identifiers → AreNamed (merged_bindings parent child) used identifiers
 AreNamed-merged_bindings parent child used identifiers inner outer = record {
   named = λ symbol identifier some. named_merged parent child used identifiers symbol identifier (identifier_of parent symbol) inner outer refl (sym (identifier_of-merged parent child symbol) ∙ some);
 }
 
--- an identifier of the same name in place of another changes no name
+-- An identifier of the same name in place of another changes no name.
 name_of-set : (identifiers : List Identifier) (index : ℕ) (old new : Identifier) (i : ℕ) → slice_get identifiers index ≡ Some old → new.name ≡ old.name → name_of (slice_set identifiers index new) i ≡ name_of identifiers i
 name_of-set [] index old new i some same = absurd (none-some old some)
 name_of-set (x ∷ xs) zero old new zero some same = same ∙ sym (ap (λ (j : Identifier). j.name) (same_Some x old some))
@@ -47,7 +47,7 @@ name_of-spanned identifiers index span i within =
     let at : slice_get identifiers index ≡ Some old = slice_get-get_or identifiers index none within in
     ap (λ (l : List Identifier). name_of l i) (changed_at-set (with_span span) index identifiers old at) ∙ name_of-set identifiers index old (with_span span old) i at refl
 
--- a span is no name
+-- A span is no name.
 pub AreNamed-spanned : (bindings : List Pair) (used : List UsedName) (identifiers : List Identifier) (index : ℕ) (span : Span) → index < length identifiers → AreNamed bindings used identifiers → AreNamed bindings used (changed_at (with_span span) index identifiers)
 AreNamed-spanned bindings used identifiers index span within agree = record {
   named = λ symbol identifier some.

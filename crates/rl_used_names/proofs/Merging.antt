@@ -47,7 +47,7 @@ identifier_of-append (p ∷ pairs) more symbol = by (nat_eq p.symbol.0 symbol) (
     by true rest = refl
     by false rest = rest
 
--- One entry more, where it is missing, is found as it is among the entries behind.
+-- An entry that is added where it is missing is found as it is among the entries behind.
 user_of-missing : (used : List UsedName) (u : UsedName) (rest : List UsedName) (name : List ℕ) → option_or (user_of (with_missing_name used u) name) (user_of rest name) ≡ option_or (user_of used name) (user_of (u ∷ rest) name)
 user_of-missing used u rest name = by (is_used used u.name) refl
   where

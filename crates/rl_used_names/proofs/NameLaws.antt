@@ -19,7 +19,7 @@ use Rattle.rl_used_names.specs.IdentifierNames.{name_of, IsNamedFor, AreNamed}
 use Rattle.rl_used_names.specs.UsedName.{user_of, UsedName}
 use Rattle.rl_hir.specs.Pairs.{pair}
 
--- pairs that come later change no identifier
+-- Pairs that come later change no identifier.
 pub identifier_of-append_some : (pairs more : List Pair) (symbol identifier : ℕ) → identifier_of pairs symbol ≡ Some identifier → identifier_of (pairs ++ more) symbol ≡ Some identifier
 identifier_of-append_some [] more symbol identifier some = absurd (none-some identifier some)
 identifier_of-append_some (p ∷ pairs) more symbol identifier some = by (nat_eq p.symbol.0 symbol) some (identifier_of-append_some pairs more symbol identifier)
@@ -29,7 +29,7 @@ identifier_of-append_some (p ∷ pairs) more symbol identifier some = by (nat_eq
     by true here later = here
     by false there later = later there
 
--- a symbol without a pair has what later pairs give it
+-- A symbol without a pair has what later pairs give it.
 pub identifier_of-append_none : (pairs more : List Pair) (symbol : ℕ) → identifier_of pairs symbol ≡ None → identifier_of (pairs ++ more) symbol ≡ identifier_of more symbol
 identifier_of-append_none [] more symbol none = refl
 identifier_of-append_none (p ∷ pairs) more symbol none = by (nat_eq p.symbol.0 symbol) none (identifier_of-append_none pairs more symbol)
@@ -39,7 +39,7 @@ identifier_of-append_none (p ∷ pairs) more symbol none = by (nat_eq p.symbol.0
     by true here later = absurd (none-some p.identifier.0 (sym here))
     by false there later = later there
 
--- a test that both names pass is the first one's
+-- A test that both names pass is the first one's.
 cond-same : {X : Type 0} (test : Bool) (x : X) (y rest : X) → cond test x rest ≡ cond test x (cond test y rest)
 cond-same true x y rest = refl
 cond-same false x y rest = refl
@@ -50,7 +50,7 @@ cond-swap true false x y rest apart = refl
 cond-swap false true x y rest apart = refl
 cond-swap false false x y rest apart = refl
 
--- the name is the symbol's, and each other name stays with its own
+-- The name is the symbol's, and each other name stays with its own.
 pub user_of-with_user : (used : List UsedName) (name : List ℕ) (symbol : ℕ) (q : List ℕ) → user_of (with_user used name symbol) q ≡ cond (bytes_eq q name) (Some symbol) (user_of used q)
 user_of-with_user [] name symbol q = refl
 user_of-with_user (u ∷ used) name symbol q = by (bytes_eq name u.name) refl (user_of-with_user used name symbol q)
@@ -65,7 +65,7 @@ user_of-with_user (u ∷ used) name symbol q = by (bytes_eq name u.name) refl (u
         ∙ cond-swap (bytes_eq q name) (bytes_eq q u.name) (Some symbol) (Some u.symbol) (user_of used q)
         (λ one two. true≢false (sym two ∙ nat_list_eq_equiv.congr q name u.name one ∙ other))
 
--- a pair that comes last gives its symbol its identifier
+-- A pair that comes last gives its symbol its identifier.
 pub identifier_of-last : (pairs : List Pair) (symbol identifier : ℕ) → identifier_of pairs symbol ≡ None → identifier_of (pairs ++ pair symbol identifier ∷ []) symbol ≡ Some identifier
 identifier_of-last pairs symbol identifier none = identifier_of-append_none pairs (pair symbol identifier ∷ []) symbol none ∙ ap (λ test. cond test (Some identifier) None) (nat_eq_equiv.refl symbol)
 
@@ -73,11 +73,11 @@ slice_get-last : {X : Type 0} (xs : List X) (x : X) → slice_get (xs ++ x ∷ [
 slice_get-last [] x = refl
 slice_get-last (y ∷ ys) x = slice_get-last ys x
 
--- the last entry changes alone
+-- The last entry changes alone.
 pub changed_at-last : {X : Type 0} (change : X → X) (xs : List X) (x : X) → changed_at change (length xs) (xs ++ x ∷ []) ≡ xs ++ change x ∷ []
 changed_at-last change xs x = changed_at-set change (length xs) (xs ++ x ∷ []) x (slice_get-last xs x) ∙ set-append_seam xs x [] (change x)
 
--- identifiers that come later rename none
+-- Identifiers that come later rename none.
 pub name_of-append : (identifiers more : List Identifier) (i : ℕ) (name : IdentifierName) → name_of identifiers i ≡ Some name → name_of (identifiers ++ more) i ≡ Some name
 name_of-append [] more i name some = absurd (none-some name some)
 name_of-append (x ∷ xs) more zero name some = some
@@ -87,19 +87,19 @@ pub name_of-last : (identifiers : List Identifier) (x : Identifier) → name_of 
 name_of-last [] x = refl
 name_of-last (y ∷ ys) x = name_of-last ys x
 
--- an identifier with a name is one of those that were made
+-- An identifier with a name is one of those that were made.
 pub name_of-within : (identifiers : List Identifier) (i : ℕ) (name : IdentifierName) → name_of identifiers i ≡ Some name → i < length identifiers
 name_of-within [] i name some = absurd (none-some name some)
 name_of-within (x ∷ xs) zero name some = omega arith
 name_of-within (x ∷ xs) (suc i) name some = omega (arith, name_of-within xs i name some)
 
--- identifiers that come later take no name away
+-- Identifiers that come later take no name away.
 pub AreNamed-append : (bindings : List Pair) (used : List UsedName) (identifiers more : List Identifier) → AreNamed bindings used identifiers → AreNamed bindings used (identifiers ++ more)
 AreNamed-append bindings used identifiers more agree = record {
   named = λ symbol identifier some. let old = agree.named symbol identifier some in record { name = old.name; named = name_of-append identifiers more identifier (names.Named old.name) old.named; user = old.user };
 }
 
--- a free name of a fresh identifier goes to its symbol
+-- A free name of a fresh identifier goes to its symbol.
 pub AreNamed-more : (bindings : List Pair) (used : List UsedName) (identifiers : List Identifier) (symbol : ℕ) (free : List ℕ) (x : Identifier) → IsFree used symbol free → x.name ≡ Some (names.Named free)
     → AreNamed bindings used identifiers → AreNamed (bindings ++ pair symbol (length identifiers) ∷ []) (with_user used free symbol) (identifiers ++ x ∷ [])
 AreNamed-more bindings used identifiers symbol free x is_free_name has_name agree = record { named = λ q i some. by q i some (identifier_of bindings q) refl }

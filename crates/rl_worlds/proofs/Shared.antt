@@ -18,7 +18,7 @@ pub contains_flat : (f : Syntax → List ℕ) (fs : List Syntax) (n : ℕ) → c
 contains_flat f [] n = refl
 contains_flat f (x ∷ xs) n = contains_append (f x) (flat f xs) n ∙ ap (λ b. contains (f x) n || b) (contains_flat f xs n)
 
--- One more number is taken, if it passes the test.
+-- Another number is taken, if it passes the test.
 pub further : (p : ℕ → Bool) (n : ℕ) (found new : List ℕ) → found ≡ filter p (below n) → new ≡ found ++ (if p n then n ∷ [] else [])
     → new ≡ filter p (below (n + 1))
 further p n found new e step = rw add-one (step ∙ ap (λ l. l ++ (if p n then n ∷ [] else [])) e ∙ sym (filter-append p (below n) (n ∷ [])))
