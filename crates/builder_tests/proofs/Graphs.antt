@@ -1,5 +1,5 @@
 -- The conditions of `build` for the graph with an `if`: it is whole, its blocks list entries of the table, and its orders have room.
-use Rattle.std.proofs.Common.{◌≡◌, ◌+◌, ◌<◌, ◌^◌, false, All, None, [], ◌∷◌, length, refl, ap, ◌∙◌, arith}
+use Rattle.std.proofs.Common.{◌≡◌, ◌<◌, ◌^◌, false, All, None, [], ◌∷◌, length, refl, ap, ◌∙◌, arith}
 use Rattle.std.proofs.lemmas.List.Elements.{All-from_recursion, All-nil}
 use Rattle.builder_tests.specs.Branch.{with_empty_if}
 use Rattle.rl_base.specs.declared.ids.InstructionId.{InstructionId}

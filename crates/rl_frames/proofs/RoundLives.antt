@@ -1,5 +1,5 @@
 -- The live instructions of a loop over keys or values stand in blocks that are reached, and so are the targets of the jumps out of it.
-use Rattle.std.proofs.Common.{◌≡◌, ℕ, ◌+◌, ◌++◌, Bool, true, false, List, length, All, Option, Some, None, refl}
+use Rattle.std.proofs.Common.{◌≡◌, ℕ, ◌+◌, ◌++◌, Bool, true, false, List, length, Option, Some, None, refl}
 use Rattle.std.proofs.lemmas.List.Elements.{All-append}
 use Rattle.std.specs.List.{list_any}
 use Rattle.rl_base.specs.declared.span.Span.{Span}

@@ -1,4 +1,4 @@
-use Rattle.std.proofs.Common.{rules, ◌≡◌, ap, ◌∙◌}
+use Rattle.std.proofs.Common.{rules, ap, ◌∙◌}
 use Rattle.builder_tests.proofs.Inners.{given_same, has_inner}
 use Rattle.rl_builder.specs.Builder.{State, state_of}
 use Rattle.rl_builder.specs.Tables.{Tables}
