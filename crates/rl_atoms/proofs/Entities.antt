@@ -1,6 +1,6 @@
 -- Entities are found by name, the first of a name.
 use Rattle.std.proofs.Common.{◌≡◌, ℕ, ◌+◌, Bool, true, false, not, ◌&&◌, if◌then◌else◌, Option, Some, None, is_some, List, [], ◌∷◌, ◌++◌, refl, sym, ap, ◌∙◌, true≢false, inl, inr}
-use Rattle.std.proofs.lemmas.Bool.{cases_Bool, and_parts}
+use Rattle.std.proofs.lemmas.Bool.{cases_Bool, and_parts, not-false}
 use Rattle.std.proofs.lemmas.List.Folds.{list_all-append}
 use Rattle.std.proofs.lemmas.Slice.Eq.{bytes_eq-Decides}
 use Rattle.std.specs.Option.{option_map}
@@ -67,11 +67,7 @@ pub entity_added : (is_new : Bool) (old new : List Entity) (entity : Entity) →
     → new ≡ (if is_new then old ++ entity ∷ [] else old) → (name : List ℕ) → entity_value new name ≡ entity_value (old ++ entity ∷ []) name
 entity_added true old new entity known is name = ap (λ l. entity_value l name) is
 entity_added false old new entity known is name =
-    ap (λ l. entity_value l name) is ∙ ap (option_map (λ e. e.value)) (sym (item-known entity_name 0 old entity name (not_not _ (sym known))))
-  where
-    not_not : (b : Bool) → not b ≡ false → b ≡ true
-    not_not true e = refl
-    not_not false e = absurd (true≢false e)
+    ap (λ l. entity_value l name) is ∙ ap (option_map (λ e. e.value)) (sym (item-known entity_name 0 old entity name (not-false _ (sym known))))
 
 -- Values stay scalar.
 pub scalar_added : (is_new : Bool) (old new : List Entity) (entity : Entity) → new ≡ (if is_new then old ++ entity ∷ [] else old)

@@ -25,7 +25,7 @@ get_push_old [] x k within = absurd (omega (arith, within))
 get_push_old (y ∷ ys) x zero within = refl
 get_push_old (y ∷ ys) x (suc k) within = get_push_old ys x k (omega (arith, within))
 
-get_push_new : {X : Type 0} (xs : List X) (x : X) → slice_get (xs ++ x ∷ []) (length xs) ≡ Some x
+pub get_push_new : {X : Type 0} (xs : List X) (x : X) → slice_get (xs ++ x ∷ []) (length xs) ≡ Some x
 get_push_new [] x = refl
 get_push_new (y ∷ ys) x = get_push_new ys x
 

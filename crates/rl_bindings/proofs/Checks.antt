@@ -1,6 +1,7 @@
 -- The loop over declarations finds their symbols, and the rules that they break.
 use Rattle.std.proofs.Common.{◌≡◌, ◌≢◌, ◌<◌, ◌≤◌, ℕ, zero, suc, ◌+◌, Bool, true, false, not, ◌&&◌, ◌||◌, if◌then◌else◌, cond, true≢false, nat_eq, Option, Some, None, is_some, IfSome, List, [], ◌∷◌, ◌++◌, length, length-append, length-set, map, filter, slice_get, slice_set, append-nil, append_assoc, refl, sym, ap, subst, ◌∙◌, arith}
 use Rattle.std.proofs.lemmas.List.Folds.{list_any-append}
+use Rattle.rl_base.proofs.Slotted.{get_push_new}
 use Rattle.std.specs.List.{list_any, position_from}
 use Rattle.std.specs.Option.{unwrap_or}
 use Rattle.rl_base.proofs.Bools.{and_true, or_assoc, or_false}
@@ -95,10 +96,6 @@ get_before [] x j within = absurd (omega (arith, within))
 get_before (y ∷ ys) x zero within = refl
 get_before (y ∷ ys) x (suc j) within = get_before ys x j (omega (arith, within))
 
-get_end : {X : Type 0} (xs : List X) (x : X) → slice_get (xs ++ x ∷ []) (length xs) ≡ Some x
-get_end [] x = refl
-get_end (y ∷ ys) x = get_end ys x
-
 number-within : (symbols : List Bound) (own : Bool) (s n k : ℕ) → number_at own s n symbols ≡ Some k → k < length symbols
 number-within symbols own s n k found = subst (λ o. IfSome o (λ j. j < length symbols)) found (number-below own s n symbols)
 
@@ -137,7 +134,7 @@ module _ (of : Marks → Bool) (test : Bound → Bool) (none : of no_marks ≡ f
       let missed : number_at own s n symbols ≡ None = number-same symbols b own s n at ∙ new in
       ap (λ c. of (marks_at (marks ++ m ∷ []) (cond c (Some (length symbols)) (number_at own s n symbols)))) at
       ∙ ap (λ l. of (marks_at (marks ++ m ∷ []) (Some l))) (sym sized)
-      ∙ ap (λ o. of (marks_or_none o)) (get_end marks m)
+      ∙ ap (λ o. of (marks_or_none o)) (get_push_new marks m)
       ∙ (λ i. sym none i || (sym at i && one i))
       ∙ ap (λ o. of (marks_at marks o) || (is_at own s n b && test b)) (sym missed))
       (λ apart.

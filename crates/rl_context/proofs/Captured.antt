@@ -1,6 +1,7 @@
 -- A symbol that an inner function assigns is assigned, and named by an inner function.
 use Rattle.std.proofs.Common.{◌≡◌, ℕ, Bool, true, false, ◌&&◌, ◌||◌, true≢false, List, [], ◌∷◌, refl, sym}
 use Rattle.std.specs.List.{list_any}
+use Rattle.rl_base.proofs.Bools.{or_true}
 use Rattle.rl_bindings.specs.declared.bindings.Bindings.{Bindings}
 use Rattle.rl_context.specs.Context.{assigns, captures, is_context}
 use Rattle.rl_context.specs.declared.site.Site.{Site}
@@ -15,11 +16,7 @@ any_both p q (s ∷ ss) some = step (p s) (q s) (list_any p ss) (list_any q ss) 
     step true false c true e more some = refl
     step true false true false e more some = more some
     step true false false false e more some = more some
-    step false b true true e more some = by_first b
-      where
-        by_first : (b : Bool) → (b || true) ≡ true
-        by_first true = refl
-        by_first false = refl
+    step false b true true e more some = or_true b
     step false b true false e more some = absurd (true≢false (sym (more some)))
     step false b false d e more some = absurd (true≢false (sym (more some)))
 

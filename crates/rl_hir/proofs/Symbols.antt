@@ -6,7 +6,7 @@ use Rattle.std.specs.List.{list_any}
 use Rattle.std.specs.Ordering.{nat_cmp, match_ordering}
 use Rattle.std.specs.declared.cmp.Ordering.{Ordering}
 use Rattle.std.specs.declared.cmp.Ordering.TheVariants.{Less, Equal, Greater}
-use Rattle.rl_base.proofs.Bools.{or_false}
+use Rattle.rl_base.proofs.Bools.{or_false, or_assoc}
 use Rattle.rl_base.specs.declared.ids.SymbolId.{SymbolId}
 use Rattle.rl_hir.specs.Symbols.{has, added}
 
@@ -29,10 +29,6 @@ or_twice true b = refl
 or_twice false true = refl
 or_twice false false = refl
 
-or_between : (a b c : Bool) → (a || (b || c)) ≡ ((a || b) || c)
-or_between true b c = refl
-or_between false b c = refl
-
 equal_number : (a b other : ℕ) → nat_cmp a b ≡ Equal → nat_eq other a ≡ nat_eq other b
 equal_number a b other same = grind (arith, nat_tests)
 
@@ -45,4 +41,4 @@ members_added (first ∷ symbols) symbol other = by (nat_cmp symbol.0 first.0) r
         → has (match_ordering order (symbol ∷ first ∷ symbols) (first ∷ symbols) (first ∷ added symbols symbol)) other ≡ ((nat_eq other.0 first.0 || has symbols other) || nat_eq other.0 symbol.0)
     by Less is rest = or_behind (nat_eq other.0 symbol.0) (nat_eq other.0 first.0 || has symbols other)
     by Equal is rest = or_twice (nat_eq other.0 first.0) (has symbols other) ∙ ap (λ b. (nat_eq other.0 first.0 || has symbols other) || b) (sym (equal_number symbol.0 first.0 other.0 is))
-    by Greater is rest = ap (λ b. nat_eq other.0 first.0 || b) rest ∙ or_between (nat_eq other.0 first.0) (has symbols other) (nat_eq other.0 symbol.0)
+    by Greater is rest = ap (λ b. nat_eq other.0 first.0 || b) rest ∙ sym (or_assoc (nat_eq other.0 first.0) (has symbols other) (nat_eq other.0 symbol.0))

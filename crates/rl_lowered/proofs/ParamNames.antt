@@ -6,6 +6,7 @@ use Rattle.std.proofs.lemmas.Bool.{eqb-true}
 use Rattle.std.proofs.lemmas.List.Elements.{All-head, All-tail}
 use Rattle.std.proofs.lemmas.Option.{cond_some, none-some, same_Some}
 use Rattle.std.proofs.lemmas.Slice.Eq.{bytes_eq-Decides}
+use Rattle.rl_base.proofs.Slotted.{get_push_new}
 use Rattle.std.specs.Option.{option_map_or, option_or}
 use Rattle.std.specs.Str.{bytes_eq}
 use Rattle.rl_base.specs.declared.ids.SymbolId.{SymbolId}
@@ -47,10 +48,6 @@ use Rattle.rl_syntax.specs.declared.word.Word.TheVariants as word
 use Rattle.rl_used_names.proofs.NameLaws.{identifier_of-append_none, identifier_of-append_some, user_of-with_user}
 use Rattle.rl_used_names.specs.Choosing.{chosen, is_free, place_from, with_user}
 use Rattle.rl_used_names.specs.UsedName.{UsedName, candidate, user_of}
-
-get_last : {X : Type 0} (xs : List X) (x : X) → slice_get (xs ++ x ∷ []) (length xs) ≡ Some x
-get_last [] x = refl
-get_last (y ∷ xs) x = get_last xs x
 
 -- A name that is free is given as it is.
 chosen_own : (used : List UsedName) (symbol : ℕ) (name : List ℕ) → is_free used symbol name ≡ true → chosen used symbol name ≡ name
@@ -156,7 +153,7 @@ module _ (names : Names) (May : SymbolId → Type 0) (spans : (symbol : ℕ) →
             record {
               type_id = s.env.next_type;
               span = new_span s symbol.0 (Some at);
-              known = ap (λ (n : ℕ). slice_get (s.env.identifiers ++ made ∷ []) n) (sym last.1) ∙ get_last s.env.identifiers made
+              known = ap (λ (n : ℕ). slice_get (s.env.identifiers ++ made ∷ []) n) (sym last.1) ∙ get_push_new s.env.identifiers made
                   ∙ ap (λ (l : List ℕ). Some (fresh_identifier l (new_span s symbol.0 (Some at)) s.env.next_type))
                   (given ∙ ap (λ (n : ℕ). names.name n) same);
               indexed = λ there_at has. ap (λ (o : Option Span). option_or o (Some at))
@@ -274,7 +271,7 @@ module _ (names : Names) (May : SymbolId → Type 0) (spans : (symbol : ℕ) →
   named_last : (s : State) (i : Identifier) → KeepAll (s.env.identifiers ++ i ∷ []) identifiers
       → name_at identifiers (length s.env.identifiers) ≡ i.name
   named_last s i all =
-      let a = all (length s.env.identifiers) i (get_last s.env.identifiers i) in
+      let a = all (length s.env.identifiers) i (get_push_new s.env.identifiers i) in
       ap (λ (o : Option Identifier). option_map_or (λ (x : Identifier). x.name) o None) a.is
 
   promoted_last : (s : State) (span : Span) → KeepAll (promoted s span).env.identifiers identifiers

@@ -1,6 +1,7 @@
 -- The number of a name is that of its text, and each text that a tree says has one.
 use Rattle.std.proofs.Common.{◌≡◌, ℕ, ◌+◌, suc, Bool, true, false, not, if◌then◌else◌, true≢false, inl, inr, Option, Some, None, is_some, List, [], ◌∷◌, ◌++◌, refl, sym, ap, subst, ◌∙◌, arith}
 use Rattle.std.proofs.lemmas.Slice.Eq.{bytes_eq-Decides}
+use Rattle.std.proofs.lemmas.Bool.{not-false}
 use Rattle.std.specs.List.{AllByRecursion}
 use Rattle.std.specs.Str.{bytes_eq}
 use Rattle.rl_ast.proofs.MarkedFunctions.{Inside, InsideOf}
@@ -67,11 +68,7 @@ known_still : (names : List Name) (text other : List ℕ) → IsKnown names text
 known_still names text other known = chosen_names (λ l. IsKnown l text) (not (is_some (number_of names other))) (names ++ record { text = other } ∷ []) names (known_longer 0 names (record { text = other } ∷ []) text known) (λ old. known)
 
 known_now : (names : List Name) (text : List ℕ) → IsKnown (add_name names text) text
-known_now names text = chosen_names (λ l. IsKnown l text) (not (is_some (number_of names text))) (names ++ record { text = text } ∷ []) names (known_last 0 names text) (λ old. opened (is_some (number_of names text)) old)
-  where
-    opened : (b : Bool) → not b ≡ false → b ≡ true
-    opened true is = refl
-    opened false is = absurd (true≢false is)
+known_now names text = chosen_names (λ l. IsKnown l text) (not (is_some (number_of names text))) (names ++ record { text = text } ∷ []) names (known_last 0 names text) (λ old. not-false (is_some (number_of names text)) old)
 
 known_all : (more : List (List ℕ)) (names : List Name) (text : List ℕ) → IsKnown names text → IsKnown (add_names names more) text
 known_all [] names text known = known

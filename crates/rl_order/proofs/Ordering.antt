@@ -1,7 +1,7 @@
 -- The invariant of a walk: each block is appended once, and edges go back on cycles alone.
 use Rattle.std.proofs.Common.{◌≡◌, ℕ, Bool, true, false, cond, not, ◌||◌, ◌⊎◌, inl, inr, true≢false, Option, Some, None, List, [], ◌∷◌, ◌++◌, map, reverse, is_some, refl, append-nil, sym, ap, ◌∙◌, subst, eq-eqb, eqb-true}
 use Rattle.std.proofs.lemmas.List.{reverse-append}
-use Rattle.std.proofs.lemmas.Bool.{or_parts}
+use Rattle.std.proofs.lemmas.Bool.{or_parts, not-false, not-true}
 use Rattle.std.specs.List.{list_any}
 use Rattle.std.specs.Map.{lookup}
 use Rattle.rl_base.specs.declared.ids.BlockId.{BlockId}
@@ -268,11 +268,7 @@ not_done graph w inner v block good first kept =
     by_done (is_done inner v.id) refl (is_done w v.id) refl
   where
     unseen : is_seen w v.id ≡ false
-    unseen = flipped (is_seen w v.id) first
-      where
-        flipped : (b : Bool) → not b ≡ true → b ≡ false
-        flipped true e = sym e
-        flipped false e = refl
+    unseen = not-true (is_seen w v.id) first
 
     by_done : (after : Bool) → is_done inner v.id ≡ after → (before : Bool) → is_done w v.id ≡ before
         → is_done inner v.id ≡ false
@@ -366,14 +362,10 @@ around graph w inner v block at good reach kept true first =
           | inr h ↦ record { seen = h; undone = before.undone }
         ]
 
-    flipped : (b : Bool) → not b ≡ true → b ≡ false
-    flipped true e = sym e
-    flipped false e = refl
-
     fresh : (id : BlockId) → is_done (appended inner v.id) id ≡ true → is_done w id ≡ false → is_seen w id ≡ false
     fresh id h undone =
         elim (either (same_id id v.id) (is_done inner id) (sym (ap (list_any (same_id id)) (order_more inner v.id)) ∙ h)) [
-          | inl same ↦ subst (λ n. is_seen w n ≡ false) (sym (same_ids id v.id same)) (flipped (is_seen w v.id) first)
+          | inl same ↦ subst (λ n. is_seen w n ≡ false) (sym (same_ids id v.id same)) (not-true (is_seen w v.id) first)
           | inr done ↦ backwards (is_seen w id) (is_seen (entered w v (fallthrough block.terminal)) id)
               (seen_more w v (fallthrough block.terminal) id) (kept.fresh id done undone)
         ]
@@ -388,17 +380,13 @@ around graph w inner v block at good reach kept false first =
       visited = kept.seen v.id (seen_entered w v (fallthrough block.terminal));
     }
   where
-    flipped : (b : Bool) → not b ≡ false → b ≡ true
-    flipped true e = refl
-    flipped false e = sym e
-
     opened : (id : BlockId) → IsOpen inner id → IsOpen w id
     opened id o =
         let before = kept.opened id o in
         elim (seen_before w v (fallthrough block.terminal) id before.seen) [
           | inl same ↦ record {
             seen = subst (λ n. is_seen w n ≡ true) (sym (same_ids id v.id same))
-                (flipped (is_seen w v.id) first);
+                (not-false (is_seen w v.id) first);
             undone = before.undone;
           }
           | inr h ↦ record { seen = h; undone = before.undone }

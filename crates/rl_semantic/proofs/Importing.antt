@@ -1,6 +1,7 @@
 -- The bindings that a tree's imports make, by the tree's form, behind those that were found before.
 use Rattle.std.proofs.Common.{◌≡◌, ℕ, Bool, true, false, ◌||◌, true≢false, Option, Some, None, List, [], ◌∷◌, ◌++◌, map, append-nil, append_assoc, ap, refl, sym, ◌∙◌}
 use Rattle.std.proofs.lemmas.Bool.{or_parts}
+use Rattle.rl_base.proofs.Bools.{or_assoc}
 use Rattle.rl_base.specs.declared.ids.NodeId.{NodeId}
 use Rattle.rl_semantic.specs.Imports.{binding_of, kind_of, specifier, import_of, imports_in, imports_among}
 use Rattle.rl_semantic.specs.ImportNodes.{is_import, has_import}
@@ -76,11 +77,7 @@ none_made _ parts none = refl
 
 import-append : (es fs : List NodeEntry) → has_import (es ++ fs) ≡ has_import es || has_import fs
 import-append [] fs = refl
-import-append (e ∷ es) fs = ap (λ b. is_import e.word || b) (import-append es fs) ∙ assoc (is_import e.word) (has_import es) (has_import fs)
-  where
-    assoc : (a b c : Bool) → (a || (b || c)) ≡ ((a || b) || c)
-    assoc true b c = refl
-    assoc false b c = refl
+import-append (e ∷ es) fs = ap (λ b. is_import e.word || b) (import-append es fs) ∙ sym (or_assoc (is_import e.word) (has_import es) (has_import fs))
 
 mutual
   none_in : (tree : Syntax) (parent : Option NodeId) → has_import (entries_under parent tree) ≡ false → imports_in tree ≡ []

@@ -1,12 +1,12 @@
 -- Laws of quoted texts.
-use Rattle.std.proofs.Common.{◌≡◌, ℕ, ◌+◌, ◌-◌, ◌*◌, ◌/◌, ◌%◌, ◌<◌, Bool, true, false, not, cond, List, [], ◌∷◌, ◌++◌, length, take, drop, get_or, ap, sym, ◌∙◌, refl, arith, true≢false, append_assoc, ◌⊎◌, inl, inr, lit<}
+use Rattle.std.proofs.Common.{◌≡◌, ℕ, ◌+◌, ◌-◌, ◌*◌, ◌/◌, ◌%◌, ◌<◌, Bool, true, false, cond, List, [], ◌∷◌, ◌++◌, length, take, drop, get_or, ap, sym, ◌∙◌, refl, arith, true≢false, append_assoc, ◌⊎◌, inl, inr, lit<}
 use Rattle.std.proofs.lemmas.List.{drop_more}
 use Rattle.std.proofs.lemmas.Bool.Decides.{nat_tests}
 use Rattle.std.specs.List.{list_all}
 use Rattle.std.specs.Str.{IsUtf8}
 use Rattle.std.proofs.lemmas.Str.{IsUtf8-append, IsUtf8-from_ascii}
 use Rattle.std.proofs.lemmas.Str.Ascii.{IsAscii-cons, IsAscii-nil}
-use Rattle.std.proofs.lemmas.Bool.{and_parts}
+use Rattle.std.proofs.lemmas.Bool.{and_parts, not-true}
 use Rattle.rl_text.specs.Quoted.{hexadecimal, is_escaped, escape, quoted_rest}
 use Rattle.rl_text.specs.ByteClasses.{is_plain}
 use Rattle.rl_text.specs.Places.{IsRun}
@@ -83,10 +83,6 @@ quotes-apart (a ∷ s) (b ∷ t) u v h =
 -- A plain byte is written as it stands.
 plain-escape : (byte : ℕ) → is_plain byte ≡ true → escape byte ≡ byte ∷ []
 plain-escape byte h = escape-plain byte (not-true (is_escaped byte) h)
-  where
-    not-true : (b : Bool) → not b ≡ true → b ≡ false
-    not-true true e = sym e
-    not-true false e = refl
 
 -- A run of plain bytes is written as it stands.
 pub quoted-plain : (run rest : List ℕ) → list_all is_plain run ≡ true → quoted_rest (run ++ rest) ≡ run ++ quoted_rest rest

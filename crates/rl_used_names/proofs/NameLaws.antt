@@ -5,6 +5,7 @@ use Rattle.std.proofs.lemmas.Cmp.{nat_eq_equiv, nat_list_eq_equiv}
 use Rattle.std.proofs.lemmas.Option.{none-some, same_Some, cond_some}
 use Rattle.std.proofs.Math.Seq.{set-append_seam}
 use Rattle.std.proofs.lemmas.Slice.Eq.{bytes_eq-Decides}
+use Rattle.rl_base.proofs.Slotted.{get_push_new}
 use Rattle.std.specs.Option.{option_map_or}
 use Rattle.std.specs.Str.{bytes_eq}
 use Rattle.rl_hir.proofs.Identifiers.{changed_at-set}
@@ -69,13 +70,9 @@ user_of-with_user (u ∷ used) name symbol q = by (bytes_eq name u.name) refl (u
 pub identifier_of-last : (pairs : List Pair) (symbol identifier : ℕ) → identifier_of pairs symbol ≡ None → identifier_of (pairs ++ pair symbol identifier ∷ []) symbol ≡ Some identifier
 identifier_of-last pairs symbol identifier none = identifier_of-append_none pairs (pair symbol identifier ∷ []) symbol none ∙ ap (λ test. cond test (Some identifier) None) (nat_eq_equiv.refl symbol)
 
-slice_get-last : {X : Type 0} (xs : List X) (x : X) → slice_get (xs ++ x ∷ []) (length xs) ≡ Some x
-slice_get-last [] x = refl
-slice_get-last (y ∷ ys) x = slice_get-last ys x
-
 -- The last entry changes alone.
 pub changed_at-last : {X : Type 0} (change : X → X) (xs : List X) (x : X) → changed_at change (length xs) (xs ++ x ∷ []) ≡ xs ++ change x ∷ []
-changed_at-last change xs x = changed_at-set change (length xs) (xs ++ x ∷ []) x (slice_get-last xs x) ∙ set-append_seam xs x [] (change x)
+changed_at-last change xs x = changed_at-set change (length xs) (xs ++ x ∷ []) x (get_push_new xs x) ∙ set-append_seam xs x [] (change x)
 
 -- Identifiers that come later rename none.
 pub name_of-append : (identifiers more : List Identifier) (i : ℕ) (name : IdentifierName) → name_of identifiers i ≡ Some name → name_of (identifiers ++ more) i ≡ Some name
