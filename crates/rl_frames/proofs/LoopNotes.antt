@@ -14,7 +14,7 @@ use Rattle.rl_hir.specs.declared.terminal.Terminal.{Terminal}
 use Rattle.rl_model.specs.Actions.{Label}
 use Rattle.rl_runs.proofs.Naming.{named_first, named_none}
 use Rattle.rl_runs.proofs.ReadNotes.{knows_plain, knows_then, marked_ended, unread_plain}
-use Rattle.rl_runs.proofs.StepNotes.{listed_aside, listed_ended, none_listed, steps_aside, steps_ended}
+use Rattle.rl_runs.proofs.StepNotes.{listed_aside, listed_ended, none_at, none_listed, steps_aside, steps_ended}
 use Rattle.rl_runs.specs.Blocks.{IsTarget}
 use Rattle.rl_runs.specs.Facts.{Extends}
 use Rattle.rl_runs.specs.Moves.{block_id, goto, without_scope}
@@ -64,9 +64,6 @@ module _ (s s2 s4 : State) (label : Label) (test : Place) (span part : Span) (en
     listed = λ k. listed_ended s4 ends behind refl (kt.listed (in_test k));
   }
     where
-      none_at : (place : ℕ) (number : InstructionId) → slice_get {X = InstructionId} [] place ≡ Some number → ⊥
-      none_at place number at = absurd (cc)
-
       in_body : KnowsListed s → KnowsListed begun
       in_body k = record { done = k.done; current = λ place number at. absurd (none_at place number at) }
 

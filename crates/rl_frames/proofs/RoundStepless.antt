@@ -27,7 +27,7 @@ use Rattle.rl_runs.proofs.Moves.{extends_value}
 use Rattle.rl_runs.proofs.Naming.{named_none}
 use Rattle.rl_runs.proofs.Preserving.{blocks_value}
 use Rattle.rl_runs.proofs.ReadNotes.{marked_ended}
-use Rattle.rl_runs.proofs.StepNotes.{listed_aside, listed_ended, none_listed, steps_aside, steps_ended}
+use Rattle.rl_runs.proofs.StepNotes.{listed_aside, listed_ended, none_at, none_listed, steps_aside, steps_ended}
 use Rattle.rl_runs.proofs.Stepless.{step_below}
 use Rattle.rl_runs.specs.Blocks.{PreservesBlocks, UniqueIds}
 use Rattle.rl_runs.specs.Moves.{goto, without_scope}
@@ -175,9 +175,6 @@ module _ (s s2 s3 s5 : State) (l : ℕ) (label : Label) (end : Terminal) (test :
 
   k3 : KeepsStepless shut s3
   k3 = kr unique_shut
-
-  none_at : (place : ℕ) (number : InstructionId) → slice_get {X = InstructionId} [] place ≡ Some number → ⊥
-  none_at place number at = absurd (cc)
 
   shut_marks : (id : ℕ) → MarkedAt stepless_of shut.completed id → MarkedAt stepless_of s2.completed id
   shut_marks id m = elim (marked_ended stepless_of (without_scope s2) again s.current id m) [

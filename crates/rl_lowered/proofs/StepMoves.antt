@@ -42,7 +42,7 @@ use Rattle.rl_optional_frames.specs.Parts.{link_opened, undefined_made}
 use Rattle.rl_runs.proofs.Moves.{extends_pushed}
 use Rattle.rl_runs.proofs.Naming.{named_none}
 use Rattle.rl_runs.proofs.ReadNotes.{marked_ended}
-use Rattle.rl_runs.proofs.StepNotes.{found_below, listed_aside, listed_ended, none_listed, steps_aside, steps_ended}
+use Rattle.rl_runs.proofs.StepNotes.{found_below, listed_aside, listed_ended, none_at, none_listed, steps_aside, steps_ended}
 use Rattle.rl_runs.proofs.Steps.{added_cases, get_more, get_seam}
 use Rattle.rl_runs.specs.Blocks.{WasNumbered}
 use Rattle.rl_runs.specs.Moves.{branch, goto, last_hole, next_hole, set_aside, stacked, stored_in}
@@ -362,9 +362,6 @@ module _ (r s2 : State) (wip : WipBlock) (scopes scopes2 : List JumpScope) (hand
 
       on_left : KeepsStepsApart s2 left
       on_left = apart_same s2 left refl refl refl (omega arith)
-
-      none_at : (place : ℕ) (number : InstructionId) → slice_get {X = InstructionId} [] place ≡ Some number → ⊥
-      none_at place number at = absurd (cc)
 
       in_hole : KnowsListed r → KnowsListed (set_aside r wip scopes r.handlers)
       in_hole l = record {

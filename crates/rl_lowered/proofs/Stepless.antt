@@ -8,7 +8,7 @@ use Rattle.rl_builder.specs.declared.jumps.JumpScope.{JumpScope}
 use Rattle.rl_hir.specs.Blocks.{Pair as BlockPair}
 use Rattle.rl_hir.specs.declared.terminal.TerminalKind.{TerminalKind}
 use Rattle.rl_lowered.specs.Steps.{KeepsStepsApart}
-use Rattle.rl_runs.proofs.StepNotes.{none_listed}
+use Rattle.rl_runs.proofs.StepNotes.{none_at, none_listed}
 use Rattle.rl_runs.specs.Blocks.{ByBreak, ByContinue, ByHandler, IsOneOf, IsTarget}
 use Rattle.rl_runs.specs.ReadNotes.{KeepsUnread, KnowsReads, MarkedAt, Unread}
 use Rattle.rl_runs.specs.StepNotes.{HasStep, KnowsListed, KnowsStepless, StepIn, Stepless}
@@ -19,9 +19,6 @@ use Rattle.rl_runs.specs.StepNotes.{HasStep, KnowsListed, KnowsStepless, StepIn,
 pub stepless_whole : (s t : State) → s.completed ≡ [] → s.current.instructions ≡ [] → KeepsStepsApart s t → Stepless t
 stepless_whole s t completed blank k = k.keeps.stepless listed knows (λ id m h. none_stands id h)
   where
-    none_at : (place : ℕ) (number : InstructionId) → slice_get {X = InstructionId} [] place ≡ Some number → ⊥
-    none_at place number at = absurd (cc)
-
     none_done : (block : BlockPair) → IsOneOf s.completed block → ⊥
     none_done block one =
         let never : slice_get {X = BlockPair} [] one.index ≡ Some block =

@@ -19,7 +19,7 @@ use Rattle.rl_machine.specs.Prunes.{ReadsNote}
 use Rattle.rl_runs.proofs.Moves.{extends_pushed}
 use Rattle.rl_runs.proofs.Naming.{named_first, named_none}
 use Rattle.rl_runs.proofs.ReadNotes.{marked_ended, unread_ended, unread_plain, unread_pushed, unread_then}
-use Rattle.rl_runs.proofs.StepNotes.{listed_aside, listed_ended, none_listed, steps_aside, steps_ended}
+use Rattle.rl_runs.proofs.StepNotes.{listed_aside, listed_ended, none_at, none_listed, steps_aside, steps_ended}
 use Rattle.rl_runs.specs.Blocks.{ByBreak, ByContinue, ByHandler, IsTarget}
 use Rattle.rl_runs.specs.Moves.{goto, next_hole, set_aside, stacked}
 use Rattle.rl_runs.specs.ReadNotes.{HasId, IsHandler, KeepsUnread, KnowsReads, MarkedAt}
@@ -93,9 +93,6 @@ module _ (r s2 : State) (wip : WipBlock) (scopes scopes2 : List JumpScope) (hand
     unread = λ kn u. unread_plain (stacked s2 scopes2 handlers2) t r.current no_replaced no_reads
         (k.unread (record { replaced = kn.replaced; read = kn.read; handlers = kn.handlers; apart = kn.apart }) u);
   }
-
-  none_at : (place : ℕ) (number : InstructionId) → slice_get {X = InstructionId} [] place ≡ Some number → ⊥
-  none_at place number at = absurd (cc)
 
   -- The block in its place begins without instructions.
   pub steps_hole : wip.instructions ≡ []

@@ -14,6 +14,9 @@ use Rattle.rl_machine.specs.Prunes.{ReadsNote}
 use Rattle.rl_runs.proofs.Steps.{added_cases, get_more}
 use Rattle.rl_runs.specs.StepNotes.{AreIn, HasStep, KeepsSteps, KnowsListed, StepIn}
 
+pub none_at : (place : ℕ) (number : InstructionId) → slice_get {X = InstructionId} [] place ≡ Some number → ⊥
+none_at place number at = absurd (cc)
+
 pub found_below : {X : Type 0} (xs : List X) (n : ℕ) → n < length xs → (x : X) × (slice_get xs n ≡ Some x)
 found_below [] n below = absurd (omega (arith, below))
 found_below (x ∷ xs) zero below = (x, refl)
@@ -42,9 +45,6 @@ listed_ended x t next blank k = record {
   ];
   current = subst (λ (l : List InstructionId). AreIn x.table l) (sym blank) (λ place number at. absurd (none_at place number at));
 }
-  where
-    none_at : (place : ℕ) (number : InstructionId) → slice_get {X = InstructionId} [] place ≡ Some number → ⊥
-    none_at place number at = absurd (cc)
 
 -- A block that was set aside meets a longer table.
 module _ (s s2 : State) (t : Terminal)
