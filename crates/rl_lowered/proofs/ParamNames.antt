@@ -1,6 +1,6 @@
 -- Parameters have their own identifiers: a plain name has one under its own name, since the names that parameters use and declare stand for
 -- one symbol each, and any other parameter has a temporary.
-use Rattle.std.proofs.Common.{◌≡◌, ℕ, ◌+◌, ◌++◌, inl, inr, Bool, true, false, nat_eq, cond, if◌then◌else◌, eq-eqb, List, [], ◌∷◌, All}
+use Rattle.std.proofs.Common.{◌≡◌, ℕ, ◌++◌, inl, inr, Bool, true, false, nat_eq, cond, if◌then◌else◌, eq-eqb, List, [], ◌∷◌, All}
 use Rattle.std.proofs.Common.{length, slice_get, Option, Some, None, refl, sym, ap, ◌∙◌, subst}
 use Rattle.std.proofs.lemmas.Bool.{eqb-true}
 use Rattle.std.proofs.lemmas.List.Elements.{All-head, All-tail}

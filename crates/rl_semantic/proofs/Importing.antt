@@ -1,5 +1,5 @@
 -- The bindings that a tree's imports make, by the tree's form, behind those that were found before.
-use Rattle.std.proofs.Common.{◌≡◌, ℕ, Bool, true, false, ◌||◌, true≢false, Option, Some, None, List, [], ◌∷◌, ◌++◌, map, append-nil, append_assoc, ap, refl, sym, ◌∙◌}
+use Rattle.std.proofs.Common.{◌≡◌, ℕ, Bool, false, ◌||◌, true≢false, Option, Some, None, List, [], ◌∷◌, ◌++◌, map, append-nil, append_assoc, ap, refl, sym, ◌∙◌}
 use Rattle.std.proofs.lemmas.Bool.{or_parts}
 use Rattle.rl_base.proofs.Bools.{or_assoc}
 use Rattle.rl_base.specs.declared.ids.NodeId.{NodeId}
