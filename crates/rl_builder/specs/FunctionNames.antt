@@ -10,7 +10,8 @@ use Rattle.rl_hir.specs.Pairs.{identifier_of}
 use Rattle.rl_names.specs.Names.{is_scope_inside}
 use Rattle.rl_resolver.specs.Around.{ancestors}
 use Rattle.rl_resolver.specs.Listed.{bindings_in}
-use Rattle.rl_resolver.specs.Lookups.{decl_kind, get_binding, is_type_only_binding, symbol_scope}
+use Rattle.rl_resolver.specs.Lookups.{get_binding, is_type_only_binding, symbol_scope}
+use Rattle.rl_resolver.specs.SymbolKinds.{decl_kind}
 use Rattle.rl_builder.specs.Builder.{State}
 use Rattle.rl_used_names.specs.IdentifierNames.{is_named, name_of}
 

@@ -19,6 +19,7 @@ use Rattle.rl_names.specs.declared.names.Meaning.{Meaning}
 use Rattle.rl_names.specs.declared.names.Meaning.TheVariants.{Local, Outer}
 use Rattle.rl_resolver.specs.Inside.{find_binding_in_descendants}
 use Rattle.rl_resolver.specs.Lookups as lookups
+use Rattle.rl_resolver.specs.SymbolKinds as symbol_kinds
 use Rattle.rl_semantic.specs.Items.{of_item}
 use Rattle.rl_builder.specs.Builder.{State}
 use Rattle.rl_builder.specs.Names.{resolved, resolved_identifier, IsStopped}
@@ -44,7 +45,7 @@ outer_variable (binding.ImportSpecifier name import) = variable.ImportSpecifier 
 
 -- The variable of a name that has a meaning: of a local variable its identifier, or the one that it gets, and its kind.
 abbrev pub variable_of : State → Meaning → VariableBinding
-variable_of s (Local symbol) = variable.Identifier (record { 0 = resolved_identifier s symbol.0 }) (converted (lookups.binding_kind s.semantic.bindings.symbols symbol.0))
+variable_of s (Local symbol) = variable.Identifier (record { 0 = resolved_identifier s symbol.0 }) (converted (symbol_kinds.binding_kind s.semantic.bindings.symbols symbol.0))
 variable_of s (Outer outer) = outer_variable outer
 
 -- Resolves a name that has a meaning, at a node with the span: a local variable that has no identifier gets one.

@@ -6,7 +6,8 @@ use Rattle.rl_bindings.specs.Symbols.{option_or}
 use Rattle.rl_bindings.specs.declared.event.Bound.{Bound}
 use Rattle.rl_bindings.specs.declared.event.ScopeEntry.{ScopeEntry}
 use Rattle.rl_semantic.specs.Functions.{entry_at}
-use Rattle.rl_resolver.specs.Inside.{bound_inside, found_from, functions_at, functions_out, function_scope, listed}
+use Rattle.rl_resolver.specs.Containing.{functions_at, functions_out, function_scope, listed}
+use Rattle.rl_resolver.specs.Inside.{bound_inside, found_from}
 use Rattle.rl_syntax.specs.declared.nodes.NodeEntry.{NodeEntry}
 
 step_at : (scopes : List ScopeEntry) (symbols : List Bound) (ancestor : ScopeId) (name scope n : ℕ) (xs : List ScopeEntry) → n < length xs

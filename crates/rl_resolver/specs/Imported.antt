@@ -2,7 +2,7 @@
 use Rattle.std.specs.Prelude.{ℕ, Option, None, slice_get, List, length, map}
 use Rattle.rl_ast.specs.Marked.{first}
 use Rattle.rl_bindings.specs.declared.event.Bound.{Bound}
-use Rattle.rl_semantic.specs.Buckets.{those_below}
+use Rattle.rl_semantic.specs.Keyed.{those_below}
 use Rattle.rl_semantic.specs.Items.{of_item}
 use Rattle.rl_semantic.specs.declared.imports.ImportBindingData.{ImportBindingData}
 use Rattle.rl_semantic.specs.declared.imports.ImportEntry.{ImportEntry}

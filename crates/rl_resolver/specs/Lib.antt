@@ -1,7 +1,9 @@
 pub mod Kinds
 pub mod Lookups
+pub mod SymbolKinds
 pub mod Around
 pub mod Listed
 pub mod Imported
 pub mod Inside
+pub mod Containing
 pub mod Children

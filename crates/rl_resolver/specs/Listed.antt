@@ -12,7 +12,7 @@ use Rattle.rl_bindings.specs.declared.event.ScopeEntry.{ScopeEntry}
 use Rattle.rl_bindings.specs.declared.names.Name.{Name}
 use Rattle.rl_bindings.specs.declared.resolve.Declaration.{Declaration}
 use Rattle.rl_bindings.specs.declared.resolve.Reference.{Reference}
-use Rattle.rl_semantic.specs.Buckets.{those_below}
+use Rattle.rl_semantic.specs.Keyed.{those_below}
 use Rattle.rl_resolver.specs.Kinds.{has_identifier}
 use Rattle.rl_resolver.specs.Lookups.{is_number, symbol_id}
 use Rattle.rl_semantic.specs.Items.{of_item}

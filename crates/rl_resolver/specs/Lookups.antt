@@ -13,12 +13,7 @@ use Rattle.rl_bindings.specs.declared.event.ScopeKind.{ScopeKind}
 use Rattle.rl_bindings.specs.declared.event.ScopeKind.TheVariants as scope_kinds
 use Rattle.rl_bindings.specs.declared.names.Name.{Name}
 use Rattle.rl_bindings.specs.declared.resolve.Reference.{Reference}
-use Rattle.rl_bindings.specs.SymbolKinds as symbol_kinds
 use Rattle.rl_resolver.specs.Kinds as kinds
-use Rattle.rl_bindings.specs.declared.symbol_kind.BindingKind.{BindingKind}
-use Rattle.rl_bindings.specs.declared.symbol_kind.BindingKind.TheVariants as binding_kinds
-use Rattle.rl_bindings.specs.declared.symbol_kind.DeclKind.{DeclKind}
-use Rattle.rl_bindings.specs.declared.symbol_kind.DeclKind.TheVariants as decl_kinds
 use Rattle.rl_semantic.specs.Items.{of_item}
 use Rattle.rl_syntax.specs.declared.nodes.NodeEntry.{NodeEntry}
 
@@ -52,14 +47,6 @@ name_text names name = of_item [] (λ n. n.text) (slice_get names name)
 -- The name of a symbol. Empty for a number that is no symbol's.
 abbrev pub symbol_name : List Name → List Bound → (symbol : ℕ) → List ℕ
 symbol_name names symbols symbol = of_item [] (λ b. name_text names b.name) (slice_get symbols symbol)
-
--- The kind of a symbol's binding. `Unknown` for a number that is no symbol's.
-abbrev pub binding_kind : List Bound → (symbol : ℕ) → BindingKind
-binding_kind symbols symbol = of_item binding_kinds.Unknown (λ b. symbol_kinds.binding_kind b.kind) (slice_get symbols symbol)
-
--- The kind of a symbol's declaration. `Unknown` for a number that is no symbol's.
-abbrev pub decl_kind : List Bound → (symbol : ℕ) → DeclKind
-decl_kind symbols symbol = of_item decl_kinds.Unknown (λ b. symbol_kinds.decl_kind b.kind) (slice_get symbols symbol)
 
 -- True of a symbol that is a type alone. Not true of a number that is no symbol's.
 abbrev pub is_type_only_binding : List Bound → (symbol : ℕ) → Bool

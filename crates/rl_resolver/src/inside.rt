@@ -2,6 +2,7 @@
 
 ghost use Rattle.std.specs.Prelude.{◌≡◌, ◌<◌, ◌^◌, ◌++◌, ◌∷◌, [], drop, length, IfOk, OnOk, MatchOption};
 ghost use Rattle.rl_semantic.specs.Buckets.{AreBuckets};
+ghost use Rattle.rl_resolver.specs.Containing as containing;
 ghost use Rattle.rl_resolver.specs.Inside as spec;
 
 use crate::iterators::Ancestors;
@@ -93,7 +94,7 @@ fn push_method(
     nodes: &[NodeEntry],
     entry: NodeEntry,
 ) -> Result<(), OutOfMemory>
-    ensures { OnOk result (pairs.new ≡ pairs.old ++ spec.method_pair nodes.now entry) }
+    ensures { OnOk result (pairs.new ≡ pairs.old ++ containing.method_pair nodes.now entry) }
 {
     match property_of(nodes, entry) {
         Some(property) => {
@@ -106,7 +107,7 @@ fn push_method(
 
 /// The scopes of the functions of properties, each at the node of its property. On `OutOfMemory`, an allocation failed.
 fn methods(alloc: Global, nodes: &[NodeEntry]) -> Result<List<(usize, ScopeId)>, OutOfMemory>
-    ensures { IfOk result (λ pairs. pairs ≡ spec.methods_in nodes.now nodes.now) }
+    ensures { IfOk result (λ pairs. pairs ≡ containing.methods_in nodes.now nodes.now) }
 {
     let mut pairs = List::new(alloc);
     for entry in nodes {
@@ -122,7 +123,7 @@ pub(crate) fn methods_by_node(
     alloc: Global,
     nodes: &[NodeEntry],
 ) -> Result<List<List<ScopeId>>, OutOfMemory>
-    ensures { IfOk result (λ table. AreBuckets table (length nodes.now) (spec.methods_in nodes.now nodes.now)) }
+    ensures { IfOk result (λ table. AreBuckets table (length nodes.now) (containing.methods_in nodes.now nodes.now)) }
 {
     let pairs = methods(alloc, nodes)?;
     let table = buckets(alloc, nodes.len(), pairs.as_slice())?;
@@ -135,8 +136,8 @@ fn function_of(
     methods: &List<List<ScopeId>>,
     entry: NodeEntry,
 ) -> Option<ScopeId>
-    requires { AreBuckets methods.now (length nodes.now) (spec.methods_in nodes.now nodes.now) }
-    ensures { result ≡ spec.function_of nodes.now entry }
+    requires { AreBuckets methods.now (length nodes.now) (containing.methods_in nodes.now nodes.now) }
+    ensures { result ≡ containing.function_of nodes.now entry }
 {
     bucket(methods, entry.at.id.0 as usize).first().copied()
 }
@@ -148,8 +149,8 @@ fn function_scope(
     methods: &List<List<ScopeId>>,
     entry: NodeEntry,
 ) -> Option<ScopeId>
-    requires { AreBuckets methods.now (length nodes.now) (spec.methods_in nodes.now nodes.now) }
-    ensures { result ≡ spec.function_scope nodes.now entry }
+    requires { AreBuckets methods.now (length nodes.now) (containing.methods_in nodes.now nodes.now) }
+    ensures { result ≡ containing.function_scope nodes.now entry }
 {
     if is_function_word(entry.word) {
         Some(entry.at.scope)
@@ -168,8 +169,8 @@ pub(crate) fn advance(
     most: usize,
     node: Option<NodeId>,
 ) -> Option<(ScopeId, usize, Option<NodeId>)>
-    requires { AreBuckets methods.now (length nodes.now) (spec.methods_in nodes.now nodes.now) }
-    ensures { MatchOption result (spec.functions_out nodes.now most node ≡ []) (λ r. spec.functions_out nodes.now most node ≡ r.0 ∷ spec.functions_out nodes.now r.1 r.2) }
+    requires { AreBuckets methods.now (length nodes.now) (containing.methods_in nodes.now nodes.now) }
+    ensures { MatchOption result (containing.functions_out nodes.now most node ≡ []) (λ r. containing.functions_out nodes.now most node ≡ r.0 ∷ containing.functions_out nodes.now r.1 r.2) }
 {
     let mut left = most;
     let mut at = node;

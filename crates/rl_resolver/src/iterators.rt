@@ -3,7 +3,7 @@
 ghost use Rattle.std.specs.Prelude.{◌≡◌, ◌≤◌, ◌-◌, length};
 ghost use Rattle.std.specs.Iterator.{YieldsFirst, item_count};
 ghost use Rattle.rl_semantic.specs.Buckets.{AreBuckets};
-ghost use Rattle.rl_resolver.specs.Inside.{containing_function_scopes, functions_out, methods_in};
+ghost use Rattle.rl_resolver.specs.Containing.{containing_function_scopes, functions_out, methods_in};
 ghost use Rattle.rl_resolver.specs.Around.{ancestors, outward, ids_from};
 
 use crate::inside::advance;

@@ -8,9 +8,11 @@ ghost use Rattle.rl_resolver.specs.Children as children;
 ghost use Rattle.rl_semantic.specs.Functions as made;
 ghost use Rattle.rl_semantic.specs.Buckets.{AreBuckets, AreFirsts};
 ghost use Rattle.rl_resolver.specs.Imported.{import_data, import_entry, import_pair};
+ghost use Rattle.rl_resolver.specs.Containing as containing;
 ghost use Rattle.rl_resolver.specs.Inside as within;
 ghost use Rattle.rl_resolver.specs.Listed as listed;
 ghost use Rattle.rl_resolver.specs.Lookups as spec;
+ghost use Rattle.rl_resolver.specs.SymbolKinds as kinds;
 ghost use Rattle.rl_semantic.specs.Imports.{data_of, seen};
 
 use crate::children::bindings_with_child_blocks;
@@ -56,7 +58,7 @@ pub struct ScopeResolver<'s> {
     ghost declared_are: { AreFirsts declared (length semantic.now.nodes.now) (map listed.declaration_pair semantic.now.bindings.declarations) },
     ghost functions_are: { functions ≡ made.function_scopes semantic.now.bindings.scopes },
     ghost ranges_are: { ranges ≡ made.function_scope_ranges semantic.now.nodes.now semantic.now.bindings.scopes },
-    ghost methods_are: { AreBuckets methods (length semantic.now.nodes.now) (within.methods_in semantic.now.nodes.now semantic.now.nodes.now) },
+    ghost methods_are: { AreBuckets methods (length semantic.now.nodes.now) (containing.methods_in semantic.now.nodes.now semantic.now.nodes.now) },
     ghost few_scopes: { length semantic.now.bindings.scopes < 2 ^ 32 },
     ghost references_are: { AreBuckets references (length semantic.now.bindings.symbols) (listed.resolved_from 0 semantic.now.bindings.references) },
     ghost bindings_are: { AreBuckets bindings (length semantic.now.bindings.scopes) (listed.bound_from semantic.now.bindings.symbols 0 semantic.now.bindings.symbols) },
@@ -175,7 +177,7 @@ impl<'s> ScopeResolver<'s> {
 
     /// The kind of a symbol's binding. `Unknown` for an interface, and for a number that is no symbol's.
     pub fn binding_kind(&self, symbol: SymbolId) -> BindingKind
-        ensures { result ≡ spec.binding_kind self.now.semantic.now.bindings.symbols symbol.0 }
+        ensures { result ≡ kinds.binding_kind self.now.semantic.now.bindings.symbols symbol.0 }
     {
         match self.symbol(symbol) {
             Some(bound) => bound.kind.binding_kind(),
@@ -185,7 +187,7 @@ impl<'s> ScopeResolver<'s> {
 
     /// The kind of a symbol's first declaration. `Unknown` for an interface, and for a number that is no symbol's.
     pub fn decl_kind(&self, symbol: SymbolId) -> DeclKind
-        ensures { result ≡ spec.decl_kind self.now.semantic.now.bindings.symbols symbol.0 }
+        ensures { result ≡ kinds.decl_kind self.now.semantic.now.bindings.symbols symbol.0 }
     {
         match self.symbol(symbol) {
             Some(bound) => bound.kind.decl_kind(),
@@ -411,7 +413,7 @@ impl<'s> ScopeResolver<'s> {
     /// of an object counts once for itself and once for its property: it is there twice for a node inside the function, and once
     /// for one in the property's key. None for a number that is no node's.
     pub fn containing_function_scopes(&self, node: NodeId) -> ContainingFunctionScopes<'_>
-        ensures { within.functions_out result.nodes.now result.most result.next ≡ within.containing_function_scopes self.now.semantic.now.nodes.now node.0 }
+        ensures { containing.functions_out result.nodes.now result.most result.next ≡ containing.containing_function_scopes self.now.semantic.now.nodes.now node.0 }
     {
         ContainingFunctionScopes::of(self.semantic.nodes, &self.methods, node)
     }

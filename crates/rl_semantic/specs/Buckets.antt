@@ -1,22 +1,14 @@
--- Items by keys that are numbers: the items of each key, in order.
-use Rattle.std.specs.Prelude.{ℕ, ◌+◌, ◌≡◌, if◌then◌else◌, nat_eq, nat_lt, slice_get, slice_set, Option, Some, None, List, [], ◌∷◌, ◌++◌, replicate}
+-- Tables of items by keys that are numbers: the items of each key, in order, or the first of them alone.
+use Rattle.std.specs.Prelude.{ℕ, ◌+◌, ◌≡◌, if◌then◌else◌, nat_lt, slice_get, slice_set, Option, Some, None, List, [], ◌∷◌, ◌++◌, replicate}
 use Rattle.rl_ast.specs.Marked.{first}
 use Rattle.rl_semantic.specs.Items.{of_item}
+pub use Rattle.rl_semantic.specs.Keyed.{those, those_below}
 
 -- The larger of `most` and the number above a key, if the key is below `count`; else `most`.
 abbrev pub further : (most count key : ℕ) → ℕ
 further most count key = if nat_lt key count then (if nat_lt most (key + 1) then key + 1 else most) else most
 
 module _ {T : Type 0} where
-  -- The items with a key, in order.
-  abbrev pub those : (key : ℕ) → List (ℕ × T) → List T
-  those key [] = []
-  those key (pair ∷ pairs) = if nat_eq pair.0 key then pair.1 ∷ those key pairs else those key pairs
-
-  -- As `those`, for keys below `count`. None for any other key.
-  abbrev pub those_below : (count key : ℕ) → List (ℕ × T) → List T
-  those_below count key pairs = if nat_lt key count then those key pairs else []
-
   -- Number above the keys that are below `count`: `most` if that is more, or there are none.
   abbrev pub keys_used : (most count : ℕ) → List (ℕ × T) → ℕ
   keys_used most count [] = most

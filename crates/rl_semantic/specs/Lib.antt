@@ -3,4 +3,5 @@ pub mod Items
 pub mod ImportNodes
 pub mod Imports
 pub mod Functions
+pub mod Keyed
 pub mod Buckets

@@ -1,5 +1,5 @@
 use Rattle.std.proofs.Common.{◌++◌, ◌-◌, sym, ap, ◌∙◌}
-use Rattle.rl_resolver.specs.Inside.{functions_out, listed}
+use Rattle.rl_resolver.specs.Containing.{functions_out, listed}
 use Rattle.rl_resolver.proofs.Stepping.{out_step}
 use Rattle.rl_resolver.proofs.inside.advance.Goals as goal
 

@@ -1,5 +1,5 @@
 use Rattle.std.proofs.Common.{◌≡◌}
-use Rattle.rl_resolver.specs.Inside.{functions_out}
+use Rattle.rl_resolver.specs.Containing.{functions_out}
 use Rattle.rl_resolver.proofs.inside.advance.Given as goal
 
 abbrev pub decreases-out : goal.decreases-out

@@ -1,5 +1,5 @@
 use Rattle.std.proofs.Common.{◌≡◌, ◌++◌, drop}
-use Rattle.rl_resolver.specs.Inside.{methods_in}
+use Rattle.rl_resolver.specs.Containing.{methods_in}
 use Rattle.rl_resolver.proofs.inside.methods.Given as goal
 
 abbrev pub invariant-loop-entry : goal.invariant-loop-entry

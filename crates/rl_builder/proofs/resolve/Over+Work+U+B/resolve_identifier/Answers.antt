@@ -6,7 +6,7 @@ use Rattle.rl_hir.specs.declared.binding.BindingKind.{BindingKind}
 use Rattle.rl_hir.specs.declared.binding.VariableBinding.TheVariants as variable
 use Rattle.rl_names.specs.declared.names.Meaning.{Meaning}
 use Rattle.rl_names.specs.declared.names.Meaning.TheVariants.{Local}
-use Rattle.rl_resolver.specs.Lookups as lookups
+use Rattle.rl_resolver.specs.SymbolKinds as symbol_kinds
 use Rattle.rl_builder.proofs.NameLaws.{identifier_of-resolved}
 use Rattle.rl_builder.specs.Builder.{State, state_of, names_of}
 use Rattle.rl_builder.specs.Meanings.{converted, variable_of, IsAllowedAt, IsStoppedAt}
@@ -23,7 +23,7 @@ returns-in-Ok-clause-binding g c =
     let number : c.in-Ok.id.0 ≡ resolved_identifier s symbol.0 =
     same_Some c.in-Ok.id.0 (resolved_identifier s symbol.0)
     (sym c.in-Ok.ensures.resolves.identifier ∙ ap (λ (t : State). identifier_of t.bindings symbol.0) c.in-Ok.ensures.resolves.state ∙ identifier_of-resolved s c.as_str-name.result.now symbol.0 (Some at.span)) in
-    let kind : c.convert_binding_kind.result ≡ converted (lookups.binding_kind s.semantic.bindings.symbols symbol.0) = c.convert_binding_kind.ensures ∙ ap converted (c.binding_kind-kind.ensures ∙ ap (λ (m : Semantic). lookups.binding_kind m.bindings.symbols symbol.0) c.resolver-resolver.ensures) in
+    let kind : c.convert_binding_kind.result ≡ converted (symbol_kinds.binding_kind s.semantic.bindings.symbols symbol.0) = c.convert_binding_kind.ensures ∙ ap converted (c.binding_kind-kind.ensures ∙ ap (λ (m : Semantic). symbol_kinds.binding_kind m.bindings.symbols symbol.0) c.resolver-resolver.ensures) in
     ap (λ (n : ℕ). variable.Identifier (record { 0 = n }) c.convert_binding_kind.result) number
     ∙ ap (λ (k : BindingKind). variable.Identifier (record { 0 = resolved_identifier s symbol.0 }) k) kind
     ∙ ap (variable_of s) (sym meaning)
