@@ -1,6 +1,7 @@
 -- The sites of a tree, by its form.
 use Rattle.std.proofs.Common.{◌≡◌, ℕ, ◌+◌, Bool, true, false, if◌then◌else◌, List, [], ◌++◌, map, append_assoc, append-nil, ap, sym, refl, ◌∙◌}
-use Rattle.rl_context.specs.Roles.{role_of, is_even, even_below, below, top}
+use Rattle.rl_context.specs.Even.{is_even, even_below}
+use Rattle.rl_context.specs.Roles.{role_of, below, top}
 use Rattle.rl_context.specs.Sites.{is_class, site_of, sites, sites_from, sites_among}
 use Rattle.rl_context.specs.declared.role.Above.{Above}
 use Rattle.rl_context.specs.declared.site.Site.{Site}

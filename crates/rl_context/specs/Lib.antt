@@ -1,4 +1,5 @@
 pub mod Roles
+pub mod Even
 pub mod Sites
 pub mod Index
 pub mod Wrapped

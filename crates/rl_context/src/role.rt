@@ -1,6 +1,7 @@
 //! Roles of nodes: all that the sites of a function know of the grammar.
 
 ghost use Rattle.std.specs.Prelude.{◌≡◌};
+ghost use Rattle.rl_context.specs.Even as even;
 ghost use Rattle.rl_context.specs.Roles as spec;
 
 use crate::site::{NodeRange, Wrapper};
@@ -160,7 +161,7 @@ fn target_below(target: Target, at: At, word: Word, index: usize) -> Target
 /// a target.
 #[inline(always)]
 pub(crate) fn is_even(word: Word) -> bool
-    ensures { result ≡ spec.is_even word }
+    ensures { result ≡ even.is_even word }
 {
     match word {
         Word::Arrow => false,
@@ -188,7 +189,7 @@ pub(crate) fn is_even(word: Word) -> bool
 /// The summary for the parts of such a node.
 #[inline(always)]
 pub(crate) fn even_below(above: Above) -> Above
-    ensures { result ≡ spec.even_below above }
+    ensures { result ≡ even.even_below above }
 {
     Above {
         opening: None,
