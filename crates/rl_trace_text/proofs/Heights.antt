@@ -8,9 +8,9 @@ use Rattle.rl_machine.specs.declared.trace.Value.{Value}
 use Rattle.rl_machine.specs.declared.trace.Value.TheVariants as values
 use Rattle.rl_text.specs.Notation.{Tree, height, height_of, Spells}
 use Rattle.rl_text.specs.Raw.{parts_of}
-use Rattle.rl_trace_text.specs.Reading.{Always, IsShown, NoneIsShown}
+use Rattle.rl_trace_text.specs.Reading.{Always, IsShown, NoneIsShown, NoWordOf}
 use Rattle.rl_trace_text.specs.Trees.{value_tree, assignment_tree, answer_tree}
-use Rattle.rl_trace_text.specs.RunWords.{SetsNarrow, AllSetNarrow, function_tree, IsNarrowFunction, IsWordOf, NoWordOf, SpellArguments}
+use Rattle.rl_trace_text.specs.RunWords.{SetsNarrow, AllSetNarrow, function_tree, IsNarrowFunction, IsWordOf, SpellArguments}
 use Rattle.rl_trace_text.specs.declared.words.Arguments.{Arguments}
 use Rattle.rl_trace_text.proofs.NoValues.{all_always}
 

@@ -1,3 +1,4 @@
+pub mod Narrow
 pub mod Reading
 pub mod Trees
 pub mod RunWords

@@ -1,6 +1,8 @@
--- Reading of a tree: `shown` gives the tree of a value, and `fits` holds of the values that can be read.
-use Rattle.std.specs.Prelude.{◌≡◌, ℕ, ◌<◌, ◌^◌}
-use Rattle.rl_text.specs.Notation.{Tree, Parts}
+-- Reading of a tree, of parts and of a word: `shown` gives the tree of a value, and `fits` holds of the values that can be read.
+use Rattle.std.specs.Prelude.{◌≡◌, ℕ, ◌≤◌, List}
+use Rattle.rl_text.specs.Notation.{Tree, Parts, height}
+pub use Rattle.rl_trace_text.specs.Narrow.{IsNarrow}
+use Rattle.rl_trace_text.specs.RunWords.{IsWordOf}
 
 -- The tree is that of the value, which can be read.
 pub record IsShown {X : Type 0} (shown : X → Tree) (fits : X → Type 0) (tree : Tree) (value : X) : Type 0 where
@@ -24,6 +26,6 @@ NoneAreShown {X} row fits parts = (values : X) → fits values → row values �
 abbrev pub Always : {X : Type 0} → X → Type 0
 Always value = Unit {0}
 
--- The number is below 2^32.
-abbrev pub IsNarrow : ℕ → Type 0
-IsNarrow number = number < 2 ^ 32
+-- The word spells the tree of no value that can be read and whose tree has at most `depth` nodes and lists open at once.
+abbrev pub NoWordOf : {X : Type 0} → (shown : X → Tree) → (fits : X → Type 0) → (depth : ℕ) → (word : List ℕ) → Type 0
+NoWordOf {X} shown fits depth word = (value : X) → height (shown value) ≤ depth → IsWordOf shown fits word value → ⊥

@@ -1,10 +1,10 @@
 -- The words that say what a function is run with.
-use Rattle.std.specs.Prelude.{◌≡◌, ℕ, ◌≤◌, Option, Some, None, List, All}
+use Rattle.std.specs.Prelude.{◌≡◌, ℕ, Option, Some, None, List, All}
 use Rattle.rl_hir.specs.Trees.{list, optional}
 use Rattle.rl_machine.specs.declared.trace.Answer.{Answer}
 use Rattle.rl_machine.specs.declared.trace.Assignment.{Assignment}
-use Rattle.rl_text.specs.Notation.{Tree, Count, Spells, height}
-use Rattle.rl_trace_text.specs.Reading.{IsNarrow}
+use Rattle.rl_text.specs.Notation.{Tree, Count, Spells}
+use Rattle.rl_trace_text.specs.Narrow.{IsNarrow}
 use Rattle.rl_trace_text.specs.Trees.{value_tree, assignment_tree, answer_tree}
 use Rattle.rl_trace_text.specs.declared.words.Arguments.{Arguments}
 
@@ -29,10 +29,6 @@ IsNarrowFunction (Some number) = IsNarrow number
 pub record IsWordOf {X : Type 0} (shown : X → Tree) (fits : X → Type 0) (word : List ℕ) (value : X) : Type 0 where
   pub spelled : Spells word (shown value)
   pub fitting : fits value
-
--- The word spells the tree of no value that can be read and whose tree has at most `depth` nodes and lists open at once.
-abbrev pub NoWordOf : {X : Type 0} → (shown : X → Tree) → (fits : X → Type 0) → (depth : ℕ) → (word : List ℕ) → Type 0
-NoWordOf {X} shown fits depth word = (value : X) → height (shown value) ≤ depth → IsWordOf shown fits word value → ⊥
 
 -- The four words spell the arguments. Numbers of functions and symbols are below 2^32.
 pub record SpellArguments (function start args answers : List ℕ) (arguments : Arguments) : Type 0 where

@@ -1,6 +1,7 @@
 //! The words of a run: which function, from which values of variables, with which arguments and answers.
 
 ghost use Rattle.std.specs.Prelude.{IfOk, IfSome, IfNone};
+ghost use Rattle.rl_trace_text.specs.Reading.{NoWordOf};
 ghost use Rattle.rl_trace_text.specs.RunWords as spec;
 
 use crate::from_tree::FromTree;
@@ -50,7 +51,7 @@ const DEEPEST: usize = 5;
 #[tactic(auto, using(crate::proofs::Heights::word_forms))]
 fn read_word<T: FromTree>(alloc: Global, word: &[u8]) -> Result<Option<T>, OutOfMemory>
     ensures found { IfOk result (λ r. IfSome r (spec.IsWordOf T.shown T.fits word.now)) }
-    ensures none { IfOk result (λ r. IfNone r (spec.NoWordOf T.shown T.fits 5 word.now)) }
+    ensures none { IfOk result (λ r. IfNone r (NoWordOf T.shown T.fits 5 word.now)) }
 {
     match read_raw_within(alloc, DEEPEST, word) {
         Ok(raw) => {
