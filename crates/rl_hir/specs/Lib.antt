@@ -11,4 +11,5 @@ pub mod Symbols
 pub mod Terminals
 pub mod Trees
 pub mod Values
+pub mod ValueWords
 pub mod Written

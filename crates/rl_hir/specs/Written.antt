@@ -1,9 +1,8 @@
--- The words of values, and texts that a writer of listings extends.
+-- Texts that a writer of listings extends, and the words of their nodes.
 use Rattle.std.specs.Prelude.{◌≡◌, ℕ, List, ◌++◌}
 use Rattle.rl_text.specs.Notation.{Tree, Parts, IsWord, IsWritable, AreWritable, spelling}
 use Rattle.rl_text.specs.Spaced.{spaced}
-use Rattle.rl_hir.specs.Values.{Form, Silent, Asks, Assigns, form_of}
-use Rattle.rl_hir.specs.declared.instruction.InstructionValue.{InstructionValue}
+pub use Rattle.rl_hir.specs.ValueWords.{form_word, value_word}
 
 -- `word` is `wanted`, and the notation can write it as the word of a node.
 pub record IsWordOf (wanted word : List ℕ) : Type 0 where
@@ -19,13 +18,3 @@ pub record IsListed (old new : List ℕ) (tree : Tree) : Type 0 where
 pub record AreListed (old new : List ℕ) (parts : Parts) : Type 0 where
   pub written : new ≡ old ++ spaced parts
   pub writable : AreWritable parts
-
--- The word of a form.
-abbrev pub form_word : Form → List ℕ
-form_word (Silent word fields) = word
-form_word (Asks word pieces) = word
-form_word (Assigns word head texts value targets) = word
-
--- The word of a value's listing.
-abbrev pub value_word : InstructionValue → List ℕ
-value_word v = form_word (form_of v)
