@@ -8,7 +8,7 @@ use Rattle.rl_machine.specs.declared.trace.Event.{Event}
 use Rattle.rl_machine.specs.declared.trace.Trace.{Trace}
 use Rattle.rl_machine.specs.declared.trace.Value.{Value}
 use Rattle.rl_machine.specs.declared.trace.Value.TheVariants as value
-use Rattle.rl_model.specs.Events.{call, global}
+use Rattle.rl_model.specs.Events.{event, global}
 use Rattle.rl_model.specs.Functions.{run_function}
 use Rattle.rl_model.specs.Marked.{marked}
 use Rattle.rl_model.specs.Scenes.{written_scene}
@@ -74,6 +74,10 @@ given number = value.Given number
 
 abbrev pub answer : AnswerKind → (number : ℕ) → Answer
 answer kind number = record { kind = kind; value = given number; pieces = []; assignments = [] }
+
+-- Calls a function: the shape of each argument, the callee, and the arguments.
+abbrev pub call : List (List ℕ) → Value → List Value → Event
+call shape f arguments = event (codes "call") shape (f ∷ arguments)
 
 -- The read of the global `f`, and the call of value 2 with value 1.
 

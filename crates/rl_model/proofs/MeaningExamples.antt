@@ -10,8 +10,8 @@ use Rattle.rl_machine.specs.declared.trace.Ending.TheVariants as ending
 use Rattle.rl_machine.specs.declared.trace.Event.{Event}
 use Rattle.rl_machine.specs.declared.trace.Value.{Value}
 use Rattle.rl_machine.specs.declared.trace.Value.TheVariants as value
-use Rattle.rl_model.proofs.ExampleUnits.{answer, arrow, body, called, function, given, loads, name, node, params, trace_of, unit, unit_of}
-use Rattle.rl_model.specs.Events.{binary, call, global}
+use Rattle.rl_model.proofs.ExampleUnits.{answer, arrow, body, call, called, function, given, loads, name, node, params, trace_of, unit, unit_of}
+use Rattle.rl_model.specs.Events.{binary, global}
 use Rattle.rl_syntax.specs.Syntax.{Syntax, Said, Flag, Absent}
 use Rattle.rl_syntax.specs.declared.word.Word.TheVariants as word
 

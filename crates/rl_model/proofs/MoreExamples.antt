@@ -8,7 +8,8 @@ use Rattle.rl_machine.specs.declared.trace.Value.TheVariants as value
 use Rattle.rl_jsx.specs.JsxTexts as jsx
 use Rattle.rl_model.proofs.ExampleTrees.{full, given, picked, id, listed, name, no, text, traced, tree, unit, yes, yields}
 use Rattle.rl_model.specs.Events.{event}
-use Rattle.rl_model.specs.Source.{is_orderly, is_supported, ported_trace_of, source_trace_of}
+use Rattle.rl_model.specs.Ported.{ported_trace_of}
+use Rattle.rl_model.specs.Source.{is_orderly, is_supported, source_trace_of}
 use Rattle.rl_syntax.specs.Syntax.{Syntax, Absent}
 use Rattle.rl_syntax.specs.declared.word.Word.TheVariants as word
 

@@ -63,7 +63,3 @@ next_of iterator collection = event (codes "next") [] (iterator ∷ collection �
 
 abbrev pub next_key : Value → Event
 next_key v = event (codes "nextpropertyof") [] (v ∷ [])
-
--- Calls a function: the shape of each argument, the callee, and the arguments.
-abbrev pub call : List (List ℕ) → Value → List Value → Event
-call shape f arguments = event (codes "call") shape (f ∷ arguments)

@@ -13,6 +13,7 @@ pub mod JsxText
 pub mod Marked
 pub mod Orderly
 pub mod Patterns
+pub mod Ported
 pub mod PortedScenes
 pub mod Runs
 pub mod Scene

@@ -46,10 +46,6 @@ is_steady_target names assigned (Node at word.Index (Then optional (Then object 
 is_steady_target names assigned (Node at word.Privatemember (Then optional (Then object parts))) = is_steady names assigned object
 is_steady_target names assigned _ = true
 
-abbrev pub is_chain : Syntax → Bool
-is_chain (Node at word.Chain parts) = true
-is_chain _ = false
-
 -- A property or a chain, without parentheses and types.
 abbrev pub is_link_inside : Syntax → Bool
 is_link_inside (Node at word.Chain parts) = true

@@ -2,7 +2,6 @@
 use Rattle.std.specs.Prelude.{ℕ, nat_eq, Bool, false, Option, Some, None, List, filter}
 use Rattle.std.specs.Option.{option_map}
 use Rattle.rl_ast.specs.Marked.{first}
-use Rattle.rl_base.specs.declared.ids.SymbolId.{SymbolId}
 use Rattle.rl_machine.specs.declared.trace.Answer.{Answer}
 use Rattle.rl_machine.specs.declared.trace.Assignment.{Assignment}
 use Rattle.rl_machine.specs.declared.trace.Trace.{Trace}
@@ -14,7 +13,6 @@ use Rattle.rl_model.specs.Facts.{facts_of, is_shadowed}
 use Rattle.rl_model.specs.Functions.{run_function}
 use Rattle.rl_model.specs.Marked.{marked}
 use Rattle.rl_model.specs.Orderly.{is_orderly_by}
-use Rattle.rl_model.specs.PortedScenes.{ported_scene}
 use Rattle.rl_model.specs.Scenes.{written_scene}
 use Rattle.rl_model.specs.Supported.{is_supported_by}
 use Rattle.rl_model.specs.Tables.{tables_of}
@@ -38,12 +36,6 @@ function_at u (Some node) = first (filter (is_node node) (inner_functions (marke
 abbrev pub source_trace_of : (u : Syntax) → (function : Option ℕ) → List Assignment → List Value → List Answer → Option Trace
 source_trace_of u function start arguments answers =
     option_map (λ f. run_function (written_scene u f) f start arguments answers) (function_at u function)
-
--- As `source_trace_of`, in the port's run. `pick` gives the symbol that a function declaration stores to, by the `bind` of its name.
-abbrev pub ported_trace_of : (u : Syntax) → (pick : (bind : ℕ) → Option SymbolId) → (function : Option ℕ) →
-    List Assignment → List Value → List Answer → Option Trace
-ported_trace_of u pick function start arguments answers =
-    option_map (λ f. run_function (ported_scene u pick f) f start arguments answers) (function_at u function)
 
 -- True of an orderly function of a unit. False where the number names no inner function.
 abbrev pub is_orderly : (u : Syntax) → (function : Option ℕ) → Bool
