@@ -408,6 +408,26 @@ single_tags = refl
 f38 : is_supported (of_body [] (tree word.Exportlist (listed [] ∷ []) ∷ [])) ≡ false
 f38 = refl
 
+-- (import "m" [])
+f38_of_an_import : is_supported (of_body [] (tree word.Import (text (codes "m") ∷ listed [] ∷ []) ∷ [])) ≡ false
+f38_of_an_import = refl
+
+-- (export (var "const" [(declarator (bind "a" -) (null))]))
+f38_of_a_declaration : is_supported
+    (of_body [] (tree word.Export
+    (tree word.Var (text (codes "const") ∷ listed (tree word.Declarator (name (codes "a") ∷ tree word.Null [] ∷ []) ∷ []) ∷ []) ∷ []) ∷
+    []))
+    ≡ false
+f38_of_a_declaration = refl
+
+-- (exportdefault (id "f"))
+f38_of_a_default : is_supported (of_body [] (tree word.Exportdefault (id (codes "f") ∷ []) ∷ [])) ≡ false
+f38_of_a_default = refl
+
+-- (exportfrom "m")
+f38_from_a_module : is_supported (of_body [] (tree word.Exportfrom (text (codes "m") ∷ []) ∷ [])) ≡ false
+f38_from_a_module = refl
+
 -- (var "await using" [(declarator (bind "a" -) (id "g"))])
 k3 : is_supported
     (of_body [] (tree word.Var
