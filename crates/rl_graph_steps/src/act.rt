@@ -17,11 +17,11 @@ use rl_trace::value::Val;
 /// At most two identifiers.
 #[derive(Clone, Copy)]
 pub enum Into {
-    /// None.
+    /// No identifier.
     Nothing,
-    /// One.
+    /// A single identifier.
     One(IdentifierId),
-    /// Two, in order.
+    /// Two identifiers, in order.
     Two(IdentifierId, IdentifierId),
 }
 

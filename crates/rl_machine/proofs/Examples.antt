@@ -112,7 +112,8 @@ label = refl
 throws : trace_of (graph (lists 0 [] (ends.Throw (place 0)) ∷ []) []) [] ≡ trace [] (ending.Threw (given 9))
 throws = refl
 
--- `switch (p) { case null: return f; default: return p; case undefined: return g }`: the tests are compared in order, the default is taken last.
+-- `switch (p) { case null: return f; default: return p; case undefined: return g }`: the tests are compared in order, the default is
+-- taken last.
 abbrev cases : Graph
 cases = graph
     (lists 0 (0 ∷ 1 ∷ []) (ends.Switch (place 0) (record { test = Some (place 1); block = block 1 } ∷ record { test = None; block = block 2 } ∷ record { test = Some (place 2); block = block 3 } ∷ []) (block 4))

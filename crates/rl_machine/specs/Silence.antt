@@ -28,7 +28,7 @@ pub record RunsSilently (i : Instruction) : Type 0 where
   pub store : Store
   pub silent : MayBeSilent (act i.lvalue.identifier.0 i.value store)
 
--- One of the notes is at block `id`, and a branch that reads it goes straight on.
+-- A note is at block `id`, and a branch that reads it goes straight on.
 abbrev pub NotesStraight : List (BlockId × Note) → (id : ℕ) → Type 0
 NotesStraight [] id = ⊥
 NotesStraight (m ∷ marks) id = ((m.0.0 ≡ id) × (choice m.1 ≡ Straight)) ⊎ NotesStraight marks id

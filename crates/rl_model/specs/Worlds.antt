@@ -118,7 +118,7 @@ kept_identifiers f others = filter (contains (flat shared_identifiers others)) (
 abbrev pub stands_for : List Pair → (identifiers : List ℕ) → (symbol : ℕ) → Bool
 stands_for pairs identifiers symbol = option_map_or (contains identifiers) (identifier_of pairs symbol) false
 
--- One more than the largest number of a symbol that has a pair.
+-- The number above the largest of the symbols that have a pair; 0 where none has.
 abbrev pub symbol_bound : List Pair → ℕ
 symbol_bound [] = 0
 symbol_bound (p ∷ pairs) = if nat_le (symbol_bound pairs) p.symbol.0 then suc p.symbol.0 else symbol_bound pairs

@@ -1,4 +1,4 @@
-//! What a tree is made of.
+//! The content of a tree, by its form.
 
 ghost use Rattle.std.specs.Prelude.{◌≡◌, ℕ, Bool, List, map, IfSome, IfNone, IsTrue, ◌↔◌};
 ghost use Rattle.rl_text.specs.Notation.{Node, Listed, Said, Count, Flag, Absent, Parts};
