@@ -127,8 +127,8 @@ pub fn branches<U: ReadsUnit>(alloc: Global, builder: &mut Builder<'_, U>) -> Re
 
 /// Appends the ids of blocks, each behind those of the blocks that lead to it.
 fn push_blocks<B: Blocks>(alloc: Global, text: &mut String, blocks: &B) -> Result<(), OutOfMemory> {
-    for place in 0..blocks.len() {
-        let (id, block) = blocks.at(place);
+    for index in 0..blocks.len() {
+        let (id, block) = blocks.at(index);
         for predecessor in block.preds.as_slice() {
             push_number(alloc, text, Some(predecessor.0))?;
         }

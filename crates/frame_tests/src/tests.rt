@@ -21,8 +21,8 @@ const MARKED: &[u8] = b"(unit [] (program [(expr (arrow y n (params [] -) (null)
 /// The ids of blocks, each behind those of the blocks that lead to it.
 fn listing<B: Blocks>(alloc: Global, blocks: &B) -> Result<String, OutOfMemory> {
     let mut text = String::new(alloc);
-    for place in 0..blocks.len() {
-        let (id, block) = blocks.at(place);
+    for index in 0..blocks.len() {
+        let (id, block) = blocks.at(index);
         for predecessor in block.preds.as_slice() {
             let number = predecessor.0;
             text.push_str(format!(in alloc; "{number} ")?.as_str())?;

@@ -22,8 +22,8 @@ pub fn draw(alloc: Global, lowered: &Lowered) -> Result<String, OutOfMemory>
     let function = &lowered.function;
     let reached = reached_blocks(alloc, &function.body)?;
     let mut out = String::from_str(alloc, "digraph hir {\n  node [shape=record];\n")?;
-    for place in 0..function.body.blocks.len() {
-        let (id, block) = function.body.blocks.at(place);
+    for index in 0..function.body.blocks.len() {
+        let (id, block) = function.body.blocks.at(index);
         if reached.contains(&id) {
             push_block(alloc, id, block, function.instructions.as_slice(), &mut out)?;
             push_edges(alloc, id, block, &reached, &mut out)?;
@@ -36,8 +36,8 @@ pub fn draw(alloc: Global, lowered: &Lowered) -> Result<String, OutOfMemory>
 /// The ids of the blocks that the entry reaches: its own, and those of the blocks with a predecessor (`IsLinked`).
 fn reached_blocks(alloc: Global, body: &Hir<GraphBlocks>) -> Result<HashSet<BlockId>, OutOfMemory> {
     let mut reached = HashSet::new(alloc);
-    for place in 0..body.blocks.len() {
-        let (id, block) = body.blocks.at(place);
+    for index in 0..body.blocks.len() {
+        let (id, block) = body.blocks.at(index);
         if id == body.entry || !block.preds.is_empty() {
             reached.insert(id)?;
         }

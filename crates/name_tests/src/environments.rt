@@ -92,8 +92,8 @@ fn block(alloc: Global, kind: BlockKind) -> BasicBlock {
 
 /// Appends the id and the kind of each block, in order.
 fn push_table<B: Blocks>(alloc: Global, text: &mut String, blocks: &B) -> Result<(), OutOfMemory> {
-    for place in 0..blocks.len() {
-        let (id, block) = blocks.at(place);
+    for index in 0..blocks.len() {
+        let (id, block) = blocks.at(index);
         push_number(alloc, text, Some(id.0))?;
         push_kind(alloc, text, block.kind)?;
     }
@@ -108,7 +108,7 @@ fn two_ids(alloc: Global) -> Result<BlockSet, OutOfMemory> {
     Ok(ids)
 }
 
-/// Puts blocks of the ids 5, 3, 9 and 7 into a table, another one at the place 1, and takes 3 out, and then 9 and an id that
+/// Puts blocks of the ids 5, 3, 9 and 7 into a table, another one at the index 1, and takes 3 out, and then 9 and an id that
 /// it does not have: the blocks behind each.
 pub fn table<B: Blocks>(alloc: Global) -> Result<String, Stop> {
     let mut text = String::new(alloc);

@@ -61,11 +61,11 @@ fn push_block(
 /// The blocks, in order.
 fn text_of<B: Blocks>(alloc: Global, blocks: &B, table: &[Instruction]) -> Result<String, Fail> {
     let mut text = String::new(alloc);
-    for place in 0..blocks.len() {
-        if place > 0 {
+    for index in 0..blocks.len() {
+        if index > 0 {
             text.push_str("; ")?;
         }
-        let (id, block) = blocks.at(place);
+        let (id, block) = blocks.at(index);
         push_block(alloc, &mut text, id, block, table)?;
     }
     Ok(text)

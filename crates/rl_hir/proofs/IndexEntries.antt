@@ -7,45 +7,45 @@ use Rattle.std.specs.Option.{option_flatten}
 use Rattle.rl_hir.specs.Indexed.{HasEntry, index_of}
 use Rattle.rl_hir.specs.declared.dense_blocks.PairIndices.{PairIndices}
 
--- The index in the entry at `place`.
-abbrev entry : List (Option ℕ) → (place : ℕ) → Option ℕ
-entry entries place = option_flatten (slice_get entries place)
+-- The index in the entry at `entry_index`.
+abbrev entry : List (Option ℕ) → (entry_index : ℕ) → Option ℕ
+entry entries entry_index = option_flatten (slice_get entries entry_index)
 
 -- The index of an id, where the entries begin with that of the id `first`.
 abbrev pub index_from : (first : ℕ) → List (Option ℕ) → (id : ℕ) → Option ℕ
 index_from first entries id = if nat_lt id first then None else entry entries (id - first)
 
-entry_of_nones : (count place : ℕ) → entry (replicate count None) place ≡ None
-entry_of_nones zero place = refl
+entry_of_nones : (count entry_index : ℕ) → entry (replicate count None) entry_index ≡ None
+entry_of_nones zero entry_index = refl
 entry_of_nones (suc count) zero = refl
-entry_of_nones (suc count) (suc place) = entry_of_nones count place
+entry_of_nones (suc count) (suc entry_index) = entry_of_nones count entry_index
 
-entry_in_front : (entries : List (Option ℕ)) (count place : ℕ) → entry (entries ++ replicate count None) place ≡ entry entries place
-entry_in_front [] count place = entry_of_nones count place
+entry_in_front : (entries : List (Option ℕ)) (count entry_index : ℕ) → entry (entries ++ replicate count None) entry_index ≡ entry entries entry_index
+entry_in_front [] count entry_index = entry_of_nones count entry_index
 entry_in_front (e ∷ entries) count zero = refl
-entry_in_front (e ∷ entries) count (suc place) = entry_in_front entries count place
+entry_in_front (e ∷ entries) count (suc entry_index) = entry_in_front entries count entry_index
 
-entry_behind : (entries : List (Option ℕ)) (count place at : ℕ) → at ≡ count + place → entry (replicate count None ++ entries) at ≡ entry entries place
-entry_behind entries zero place at is = ap (entry entries) (omega arith)
-entry_behind entries (suc count) place zero is = absurd (omega arith)
-entry_behind entries (suc count) place (suc at) is = entry_behind entries count place at (omega arith)
+entry_behind : (entries : List (Option ℕ)) (count entry_index at : ℕ) → at ≡ count + entry_index → entry (replicate count None ++ entries) at ≡ entry entries entry_index
+entry_behind entries zero entry_index at is = ap (entry entries) (omega arith)
+entry_behind entries (suc count) entry_index zero is = absurd (omega arith)
+entry_behind entries (suc count) entry_index (suc at) is = entry_behind entries count entry_index at (omega arith)
 
-entry_among_nones : (entries : List (Option ℕ)) (count place : ℕ) → place < count → entry (replicate count None ++ entries) place ≡ None
-entry_among_nones entries zero place h = absurd (omega arith)
+entry_among_nones : (entries : List (Option ℕ)) (count entry_index : ℕ) → entry_index < count → entry (replicate count None ++ entries) entry_index ≡ None
+entry_among_nones entries zero entry_index h = absurd (omega arith)
 entry_among_nones entries (suc count) zero h = refl
-entry_among_nones entries (suc count) (suc place) h = entry_among_nones entries count place (omega arith)
+entry_among_nones entries (suc count) (suc entry_index) h = entry_among_nones entries count entry_index (omega arith)
 
-entry_set : (entries : List (Option ℕ)) (place : ℕ) (index : Option ℕ) → place < length entries → entry (slice_set entries place index) place ≡ index
-entry_set [] place index h = absurd (omega arith)
+entry_set : (entries : List (Option ℕ)) (entry_index : ℕ) (index : Option ℕ) → entry_index < length entries → entry (slice_set entries entry_index index) entry_index ≡ index
+entry_set [] entry_index index h = absurd (omega arith)
 entry_set (e ∷ entries) zero index h = refl
-entry_set (e ∷ entries) (suc place) index h = entry_set entries place index (omega arith)
+entry_set (e ∷ entries) (suc entry_index) index h = entry_set entries entry_index index (omega arith)
 
-entry_other : (entries : List (Option ℕ)) (place other : ℕ) (index : Option ℕ) → (other ≡ place → ⊥) → entry (slice_set entries place index) other ≡ entry entries other
-entry_other [] place other index h = refl
+entry_other : (entries : List (Option ℕ)) (entry_index other : ℕ) (index : Option ℕ) → (other ≡ entry_index → ⊥) → entry (slice_set entries entry_index index) other ≡ entry entries other
+entry_other [] entry_index other index h = refl
 entry_other (e ∷ entries) zero zero index h = absurd (h refl)
 entry_other (e ∷ entries) zero (suc other) index h = refl
-entry_other (e ∷ entries) (suc place) zero index h = refl
-entry_other (e ∷ entries) (suc place) (suc other) index h = entry_other entries place other index (λ same. h (ap suc same))
+entry_other (e ∷ entries) (suc entry_index) zero index h = refl
+entry_other (e ∷ entries) (suc entry_index) (suc other) index h = entry_other entries entry_index other index (λ same. h (ap suc same))
 
 -- Entries without an index, of ids in front of the first one, change no index.
 pub more_in_front : (first more : ℕ) (entries : List (Option ℕ)) (id : ℕ) → more ≤ first → index_from (first - more) (replicate more None ++ entries) id ≡ index_from first entries id

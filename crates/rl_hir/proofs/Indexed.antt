@@ -203,10 +203,10 @@ one_more table after pairs end id h here indices entries =
             indices other ∙ rw s (ap Some same)
         by_id false s = let not_here = lower s in indices other ∙ rw s (h.placed index other (omega (arith, not_here)) e)
 
-    known : (index other : ℕ) → index_of after other ≡ Some index → (place : ℕ) × (slice_get (ids pairs) place ≡ Some other)
+    known : (index other : ℕ) → index_of after other ≡ Some index → (pair_index : ℕ) × (slice_get (ids pairs) pair_index ≡ Some other)
     known index other e = by_id (nat_eq other id) refl
       where
-        by_id : (b : Bool) → nat_eq other id ≡ b → (place : ℕ) × (slice_get (ids pairs) place ≡ Some other)
+        by_id : (b : Bool) → nat_eq other id ≡ b → (pair_index : ℕ) × (slice_get (ids pairs) pair_index ≡ Some other)
         by_id true s = (end, here ∙ ap Some (sym (eqb-true other id s)))
         by_id false s = h.known index other (sym (indices other ∙ rw s refl) ∙ e)
 
@@ -256,19 +256,19 @@ appended table after pairs id block h fresh indices = record { placed = placed; 
             subst (λ (k : ℕ). slice_get (ids (pairs ++ (id, block) ∷ [])) k ≡ Some other) same (id_last pairs (id, block) ∙ ap Some id_is)
         by_id false s = id_before pairs (id, block) index other (h.found index other (sym (indices other ∙ rw s refl) ∙ e))
 
-front_ids : (pairs : List Pair) (index place id : ℕ) → place < index → slice_get (ids (remove pairs index)) place ≡ Some id → slice_get (ids pairs) place ≡ Some id
-front_ids [] zero place id low e = absurd (omega arith)
-front_ids [] (suc index) place id low e = e
-front_ids (p ∷ pairs) zero place id low e = absurd (omega arith)
+front_ids : (pairs : List Pair) (index pair_index id : ℕ) → pair_index < index → slice_get (ids (remove pairs index)) pair_index ≡ Some id → slice_get (ids pairs) pair_index ≡ Some id
+front_ids [] zero pair_index id low e = absurd (omega arith)
+front_ids [] (suc index) pair_index id low e = e
+front_ids (p ∷ pairs) zero pair_index id low e = absurd (omega arith)
 front_ids (p ∷ pairs) (suc index) zero id low e = e
-front_ids (p ∷ pairs) (suc index) (suc place) id low e = front_ids pairs index place id (omega arith) e
+front_ids (p ∷ pairs) (suc index) (suc pair_index) id low e = front_ids pairs index pair_index id (omega arith) e
 
-stays : (pairs : List Pair) (index place id : ℕ) → (place ≡ index → ⊥) → slice_get (ids pairs) place ≡ Some id → (rest : ℕ) × (slice_get (ids (remove pairs index)) rest ≡ Some id)
-stays [] index place id not_it e = absurd (cc)
+stays : (pairs : List Pair) (index pair_index id : ℕ) → (pair_index ≡ index → ⊥) → slice_get (ids pairs) pair_index ≡ Some id → (rest : ℕ) × (slice_get (ids (remove pairs index)) rest ≡ Some id)
+stays [] index pair_index id not_it e = absurd (cc)
 stays (p ∷ pairs) zero zero id not_it e = absurd (not_it refl)
-stays (p ∷ pairs) zero (suc place) id not_it e = (place, e)
+stays (p ∷ pairs) zero (suc pair_index) id not_it e = (pair_index, e)
 stays (p ∷ pairs) (suc index) zero id not_it e = (0, e)
-stays (p ∷ pairs) (suc index) (suc place) id not_it e = let rest = stays pairs index place id (λ h. not_it (ap suc h)) e in (suc rest.0, rest.1)
+stays (p ∷ pairs) (suc index) (suc pair_index) id not_it e = let rest = stays pairs index pair_index id (λ h. not_it (ap suc h)) e in (suc rest.0, rest.1)
 
 -- The pair at `index` was taken out, and its id's index: the indices in front of it stay.
 pub taken_out : (table after : PairIndices) (pairs : List Pair) (index : ℕ) (id : BlockId) → IsIndexed table pairs → index_of table id.0 ≡ Some index
@@ -282,37 +282,37 @@ taken_out table after pairs index id h is indices entries = record { own = own; 
     own : HaveOwnIds (remove pairs index)
     own = subst (λ (l : List Pair). HaveOwnIds l) less (removed pairs id (own_ids table pairs h))
 
-    entry : (place other : ℕ) → slice_get (ids (remove pairs index)) place ≡ Some other → HasEntry after other
-    entry place other e =
-        let there = in_fewer pairs id other (subst (λ (l : List Pair). IsIn (ids l) other) (sym less) (record { index = place; found = e })) in
+    entry : (pair_index other : ℕ) → slice_get (ids (remove pairs index)) pair_index ≡ Some other → HasEntry after other
+    entry pair_index other e =
+        let there = in_fewer pairs id other (subst (λ (l : List Pair). IsIn (ids l) other) (sym less) (record { index = pair_index; found = e })) in
         entries other (entry_of table other there.index (h.placed there.index other there.found))
 
-    placed : (place other : ℕ) → place < index → slice_get (ids (remove pairs index)) place ≡ Some other → index_of after other ≡ Some place
-    placed place other low e = by_id (nat_eq other id.0) refl
+    placed : (pair_index other : ℕ) → pair_index < index → slice_get (ids (remove pairs index)) pair_index ≡ Some other → index_of after other ≡ Some pair_index
+    placed pair_index other low e = by_id (nat_eq other id.0) refl
       where
-        old : index_of table other ≡ Some place
-        old = h.placed place other (front_ids pairs index place other low e)
+        old : index_of table other ≡ Some pair_index
+        old = h.placed pair_index other (front_ids pairs index pair_index other low e)
 
-        by_id : (b : Bool) → nat_eq other id.0 ≡ b → index_of after other ≡ Some place
+        by_id : (b : Bool) → nat_eq other id.0 ≡ b → index_of after other ≡ Some pair_index
         by_id true s =
             absurd (
             let both : index_of table other ≡ Some index = ap (index_of table) (eqb-true other id.0 s) ∙ is in
             let before = old in
-            let never : place ≡ index = cc in
+            let never : pair_index ≡ index = cc in
             omega arith)
         by_id false s = indices other ∙ rw s old
 
-    known : (place other : ℕ) → index_of after other ≡ Some place → (rest : ℕ) × (slice_get (ids (remove pairs index)) rest ≡ Some other)
-    known place other e = by_id (nat_eq other id.0) refl
+    known : (pair_index other : ℕ) → index_of after other ≡ Some pair_index → (rest : ℕ) × (slice_get (ids (remove pairs index)) rest ≡ Some other)
+    known pair_index other e = by_id (nat_eq other id.0) refl
       where
         by_id : (b : Bool) → nat_eq other id.0 ≡ b → (rest : ℕ) × (slice_get (ids (remove pairs index)) rest ≡ Some other)
         by_id true s = absurd (let none : index_of after other ≡ None = indices other ∙ rw s refl in cc)
-        by_id false s = stays pairs index place other not_it there
+        by_id false s = stays pairs index pair_index other not_it there
           where
-            there : slice_get (ids pairs) place ≡ Some other
-            there = h.found place other (sym (indices other ∙ rw s refl) ∙ e)
+            there : slice_get (ids pairs) pair_index ≡ Some other
+            there = h.found pair_index other (sym (indices other ∙ rw s refl) ∙ e)
 
-            not_it : place ≡ index → ⊥
+            not_it : pair_index ≡ index → ⊥
             not_it same =
                 let mine : slice_get (ids pairs) index ≡ Some id.0 = h.found index id.0 is in
                 let here : slice_get (ids pairs) index ≡ Some other = subst (λ (k : ℕ). slice_get (ids pairs) k ≡ Some other) same there in

@@ -67,10 +67,10 @@ removed (p ∷ pairs) id own = by_head (same_id id p.0) refl (removed pairs id (
     by_head true e rest = rw e (distinct_tail p.0.0 (ids pairs) own)
     by_head false e rest = rw e (distinct_cons p.0.0 (ids (without_block pairs id)) (λ h. distinct_head p.0.0 (ids pairs) own (in_fewer pairs id p.0.0 h)) rest)
 
-pub same_ids : (pairs : List Pair) (place : ℕ) (block : BasicBlock) → ids (with_block_at pairs place block) ≡ ids pairs
-same_ids [] place block = refl
+pub same_ids : (pairs : List Pair) (index : ℕ) (block : BasicBlock) → ids (with_block_at pairs index block) ≡ ids pairs
+same_ids [] index block = refl
 same_ids (p ∷ pairs) zero block = refl
-same_ids (p ∷ pairs) (suc place) block = ap (λ (t : List ℕ). p.0.0 ∷ t) (same_ids pairs place block)
+same_ids (p ∷ pairs) (suc index) block = ap (λ (t : List ℕ). p.0.0 ∷ t) (same_ids pairs index block)
 
-pub replaced : (pairs : List Pair) (place : ℕ) (block : BasicBlock) → HaveOwnIds pairs → HaveOwnIds (with_block_at pairs place block)
-replaced pairs place block own = subst AreDistinct (sym (same_ids pairs place block)) own
+pub replaced : (pairs : List Pair) (index : ℕ) (block : BasicBlock) → HaveOwnIds pairs → HaveOwnIds (with_block_at pairs index block)
+replaced pairs index block own = subst AreDistinct (sym (same_ids pairs index block)) own

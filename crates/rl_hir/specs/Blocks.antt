@@ -34,9 +34,9 @@ with_block pairs id block = insert_entry same_id pairs id block
 abbrev pub without_block : List Pair → BlockId → List Pair
 without_block pairs id = remove_entry (same_id id) pairs
 
--- With another block in the pair at a place; past the end nothing changes.
-abbrev pub with_block_at : List Pair → (place : ℕ) → BasicBlock → List Pair
-with_block_at pairs place block = set_value_at pairs place block
+-- With another block in the pair at an index; past the end nothing changes.
+abbrev pub with_block_at : List Pair → (index : ℕ) → BasicBlock → List Pair
+with_block_at pairs index block = set_value_at pairs index block
 
 -- The blocks whose ids are not listed.
 abbrev pub kept : (lost : List BlockId) → List Pair → List Pair

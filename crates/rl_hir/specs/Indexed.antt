@@ -22,4 +22,4 @@ pub record IsIndexedBelow (table : PairIndices) (end : ℕ) (pairs : List Pair) 
   pub own : HaveOwnIds pairs
   pub entries : (index id : ℕ) → slice_get (ids pairs) index ≡ Some id → HasEntry table id
   pub placed : (index id : ℕ) → index < end → slice_get (ids pairs) index ≡ Some id → index_of table id ≡ Some index
-  pub known : (index id : ℕ) → index_of table id ≡ Some index → (place : ℕ) × (slice_get (ids pairs) place ≡ Some id)
+  pub known : (index id : ℕ) → index_of table id ≡ Some index → (pair_index : ℕ) × (slice_get (ids pairs) pair_index ≡ Some id)

@@ -57,16 +57,16 @@ pub trait Blocks: Drop {
         ensures count { result ≡ length (pairs self.now) }
         ensures distinct { HaveOwnIds (pairs self.now) };
 
-    /// The pair at a place, from 0.
-    fn at(&self, place: usize) -> (BlockId, &BasicBlock)
-        requires { place < length (pairs self.now) }
-        ensures { slice_get (pairs self.now) place ≡ Some (result.0, result.1.now) };
+    /// The pair at an index, from 0.
+    fn at(&self, index: usize) -> (BlockId, &BasicBlock)
+        requires { index < length (pairs self.now) }
+        ensures { slice_get (pairs self.now) index ≡ Some (result.0, result.1.now) };
 
-    /// Puts a block in the pair at a place, and returns the block that was in it.
-    fn set_at(&mut self, place: usize, block: BasicBlock) -> BasicBlock
-        requires { place < length (pairs self.old) }
-        ensures old { slice_get (values_of (pairs self.old)) place ≡ Some result }
-        ensures new { pairs self.new ≡ with_block_at (pairs self.old) place block };
+    /// Puts a block in the pair at an index, and returns the block that was in it.
+    fn set_at(&mut self, index: usize, block: BasicBlock) -> BasicBlock
+        requires { index < length (pairs self.old) }
+        ensures old { slice_get (values_of (pairs self.old)) index ≡ Some result }
+        ensures new { pairs self.new ≡ with_block_at (pairs self.old) index block };
 }
 
 /// The table that the functions of a result hold their blocks in.
@@ -127,16 +127,16 @@ impl Blocks for MapBlocks {
         self.map.len()
     }
 
-    fn at(&self, place: usize) -> (BlockId, &BasicBlock) {
-        match self.map.get_index(place) {
+    fn at(&self, index: usize) -> (BlockId, &BasicBlock) {
+        match self.map.get_index(index) {
             Some((id, block)) => (*id, block),
             None => unreachable!(),
         }
     }
 
     #[tactic(auto, using(crate::proofs::OwnIds::replaced))]
-    fn set_at(&mut self, place: usize, block: BasicBlock) -> BasicBlock {
-        match self.map.get_index_mut(place) {
+    fn set_at(&mut self, index: usize, block: BasicBlock) -> BasicBlock {
+        match self.map.get_index_mut(index) {
             Some(slot) => mem::replace(slot, block),
             None => unreachable!(),
         }

@@ -227,12 +227,12 @@ impl Blocks for DenseBlocks {
         self.pairs.len()
     }
 
-    fn at(&self, place: usize) -> (BlockId, &BasicBlock) {
-        let (id, block) = &self.pairs[place];
+    fn at(&self, index: usize) -> (BlockId, &BasicBlock) {
+        let (id, block) = &self.pairs[index];
         (*id, block)
     }
 
-    fn set_at(&mut self, place: usize, block: BasicBlock) -> BasicBlock {
-        mem::replace(&mut self.pairs[place].1, block)
+    fn set_at(&mut self, index: usize, block: BasicBlock) -> BasicBlock {
+        mem::replace(&mut self.pairs[index].1, block)
     }
 }

@@ -248,7 +248,7 @@ pub enum Pattern {
 /// An element of an array literal, or of an array pattern.
 #[derive(Clone, Copy)]
 pub enum ArrayElement {
-    /// One item.
+    /// An item.
     Place(Place),
     /// All items of an array; in a pattern, all that are left.
     Spread(Place),

@@ -64,12 +64,12 @@ fn write_blocks<B: Blocks>(blocks: &B, out: &mut Vec<u8>) -> Result<(), OutOfMem
     ensures writable { OnOk result (AreWritable (parts_of (map spec.block (B.pairs blocks.now)))) }
 {
     let mut spaced = false;
-    for place in 0..blocks.len() {
+    for index in 0..blocks.len() {
         if spaced {
             out.push(b' ')?;
         }
         spaced = true;
-        let (id, block) = blocks.at(place);
+        let (id, block) = blocks.at(index);
         write_block(id, block, out)?;
     }
     Ok(())

@@ -15,7 +15,7 @@ use rl_base::list::List;
 use rl_base::text::Text;
 use rl_text::written::{Decimal, Dotted, Literal, WrittenParts};
 
-/// One of the two lists that an event is listed with.
+/// A list that the listing of an event has.
 #[derive(Clone, Copy)]
 pub enum Row {
     /// Its texts.

@@ -10,8 +10,8 @@ use std::alloc::Global;
 use std::collections::BTreeSet;
 use std::marker::Model;
 
-/// A set of symbols. Contracts see the members, in the order of their numbers. A call takes a number of comparisons that is at most logarithmic in
-/// the number of members.
+/// A set of symbols. Contracts see the members, in the order of their ids. A call takes a number of comparisons that is at most
+/// logarithmic in the number of members.
 #[derive(Drop)]
 pub struct SymbolSet {
     members: BTreeSet<SymbolId>,

@@ -8,7 +8,7 @@ use Rattle.rl_hir.specs.declared.terminal.GotoVariant.TheVariants as gotos
 use Rattle.rl_hir.specs.declared.terminal.TerminalKind.{TerminalKind}
 use Rattle.rl_hir.specs.declared.terminal.TerminalKind.TheVariants as kinds
 use Rattle.rl_order.proofs.DeadTries.{drop_pair, next_try}
-use Rattle.rl_order.proofs.PlaceSteps.{same_later}
+use Rattle.rl_order.proofs.TakenBlocks.{same_later}
 use Rattle.rl_order.proofs.RemovalSteps.{Changing, changing_begin, changing_end, changing_step, value_at}
 use Rattle.rl_order.specs.Prune.{cleaned}
 use Rattle.rl_order.specs.Removals.{dead_tries, dead_try, is_there, live_do_while, live_for, with_kind, with_kinds, without_dead_do_whiles, without_dead_tries, without_try, without_unreachable_updates}
@@ -60,50 +60,50 @@ same_tries there (p ∷ pairs) =
     ap (λ (o : Option DeadTry). option_to_list o ++ dead_tries there (with_kinds (live_kind there) pairs)) (same_try there p.0 p.1.terminal.kind)
     ∙ ap (λ (t : List DeadTry). option_to_list (dead_try there p.0 p.1.terminal.kind) ++ t) (same_tries there pairs)
 
--- The terminals of `now` before a place are changed, and the dead `try`s before it are listed.
-pub record Ending (pairs now : List Pair) (listed : List DeadTry) (place : ℕ) : Type 0 where
-  pub kinds : Changing (live_kind (is_there pairs)) pairs now place
-  pub tries : listed ++ dead_tries (is_there pairs) (drop place pairs) ≡ dead_tries (is_there pairs) pairs
+-- The terminals of `now` before an index are changed, and the dead `try`s before it are listed.
+pub record Ending (pairs now : List Pair) (listed : List DeadTry) (index : ℕ) : Type 0 where
+  pub kinds : Changing (live_kind (is_there pairs)) pairs now index
+  pub tries : listed ++ dead_tries (is_there pairs) (drop index pairs) ≡ dead_tries (is_there pairs) pairs
 
 pub ending_begin : (pairs : List Pair) → Ending pairs pairs [] 0
 ending_begin pairs = record { kinds = changing_begin (live_kind (is_there pairs)) pairs; tries = refl }
 
 pub ending_step : (pairs now after : List Pair) (listed more : List DeadTry)
-    (place : ℕ) (p : Pair) (dead : Option DeadTry) (kind : TerminalKind)
-    → Ending pairs now listed place → slice_get now place ≡ Some p
+    (index : ℕ) (p : Pair) (dead : Option DeadTry) (kind : TerminalKind)
+    → Ending pairs now listed index → slice_get now index ≡ Some p
     → dead ≡ dead_try (is_there now) p.0 p.1.terminal.kind → more ≡ listed ++ option_to_list dead
-    → kind ≡ live_kind (is_there now) p.1.terminal.kind → after ≡ with_block_at now place (with_kind p.1 kind)
-    → Ending pairs after more (place + 1)
-ending_step pairs now after listed more place p dead kind h at tells lists is put =
+    → kind ≡ live_kind (is_there now) p.1.terminal.kind → after ≡ with_block_at now index (with_kind p.1 kind)
+    → Ending pairs after more (index + 1)
+ending_step pairs now after listed more index p dead kind h at tells lists is put =
     let there : is_there now ≡ is_there pairs = λ j. λ id. h.kinds.there id j in
-    let here : drop place pairs ≡ p ∷ drop (place + 1) pairs =
-    sym h.kinds.rest ∙ drop_pair now place p at ∙ ap (λ (t : List Pair). p ∷ t) (same_later now pairs place h.kinds.rest) in
+    let here : drop index pairs ≡ p ∷ drop (index + 1) pairs =
+    sym h.kinds.rest ∙ drop_pair now index p at ∙ ap (λ (t : List Pair). p ∷ t) (same_later now pairs index h.kinds.rest) in
     record {
       kinds =
-          changing_step (live_kind (is_there pairs)) pairs now after place p.1 kind h.kinds (value_at now place p at)
+          changing_step (live_kind (is_there pairs)) pairs now after index p.1 kind h.kinds (value_at now index p at)
           (is ∙ ap (λ t. live_kind t p.1.terminal.kind) there) put;
       tries =
-          next_try (is_there pairs) pairs place p here dead (tells ∙ ap (λ t. dead_try t p.0 p.1.terminal.kind) there)
+          next_try (is_there pairs) pairs index p here dead (tells ∙ ap (λ t. dead_try t p.0 p.1.terminal.kind) there)
           listed more lists
           ∙ h.tries;
     }
 
-pub ending_kinds : (pairs now : List Pair) (listed : List DeadTry) (place : ℕ)
-    → Ending pairs now listed place → length pairs ≡ place
+pub ending_kinds : (pairs now : List Pair) (listed : List DeadTry) (index : ℕ)
+    → Ending pairs now listed index → length pairs ≡ index
     → now ≡ without_dead_do_whiles (without_unreachable_updates pairs)
-ending_kinds pairs now listed place h all =
-    changing_end (live_kind (is_there pairs)) pairs now place h.kinds all ∙ both_kinds pairs
+ending_kinds pairs now listed index h all =
+    changing_end (live_kind (is_there pairs)) pairs now index h.kinds all ∙ both_kinds pairs
 
-pub ending_tries : (pairs now : List Pair) (listed : List DeadTry) (place : ℕ)
-    → Ending pairs now listed place → length pairs ≡ place
+pub ending_tries : (pairs now : List Pair) (listed : List DeadTry) (index : ℕ)
+    → Ending pairs now listed index → length pairs ≡ index
     → listed ≡ dead_tries (is_there now) now
-ending_tries pairs now listed place h all =
+ending_tries pairs now listed index h all =
     let there : is_there now ≡ is_there pairs = λ j. λ id. h.kinds.there id j in
     sym (append-nil listed)
-    ∙ ap (λ (t : List Pair). listed ++ dead_tries (is_there pairs) t) (sym (drop_all place pairs (omega (arith, all))))
+    ∙ ap (λ (t : List Pair). listed ++ dead_tries (is_there pairs) t) (sym (drop_all index pairs (omega (arith, all))))
     ∙ h.tries
     ∙ sym (same_tries (is_there pairs) pairs)
-    ∙ ap (dead_tries (is_there pairs)) (sym (changing_end (live_kind (is_there pairs)) pairs now place h.kinds all))
+    ∙ ap (dead_tries (is_there pairs)) (sym (changing_end (live_kind (is_there pairs)) pairs now index h.kinds all))
     ∙ ap (λ t. dead_tries t now) (sym there)
 
 -- The blocks behind the removals.

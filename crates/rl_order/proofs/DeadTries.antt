@@ -1,4 +1,4 @@
--- Blocks that are changed by their places, and blocks that stay.
+-- Blocks that are changed by their indices, and blocks that stay.
 use Rattle.std.proofs.Common.{◌≡◌, ℕ, zero, suc, ◌+◌, ◌<◌, inl, inr, Bool, true, false, not, ◌&&◌, if◌then◌else◌, Option, List, [], ◌∷◌, ◌++◌, length, map, filter, fold, get_or, drop, position, IfSome, slice_get, Some, None, ap, sym, ◌∙◌, refl, subst, arith, add-one, append_assoc, eq-eqb}
 use Rattle.std.specs.List.{list_any}
 use Rattle.std.proofs.Math.Seq.{drop-cons}
@@ -14,7 +14,7 @@ use Rattle.rl_base.specs.declared.ids.BlockId.{BlockId}
 use Rattle.rl_hir.specs.Blocks.{HaveOwnIds, Pair, block_at, ids, kept, same_id, with_block_at}
 use Rattle.rl_hir.specs.declared.function.BasicBlock.{BasicBlock}
 use Rattle.rl_order.proofs.Follows.{one_id}
-use Rattle.rl_order.proofs.PlaceSteps.{keys_put}
+use Rattle.rl_order.proofs.TakenBlocks.{keys_put}
 use Rattle.rl_order.proofs.PredecessorsReached.{In}
 use Rattle.rl_order.proofs.SourceLists.{apart, get_keys, passes}
 use Rattle.rl_order.specs.Kept.{changed_at}
@@ -22,40 +22,40 @@ use Rattle.rl_order.specs.Removals.{dead_tries, dead_try, is_alone, is_lost, wit
 use Rattle.rl_order.specs.TrySteps.{has_alone}
 use Rattle.rl_order.specs.declared.tries.DeadTry.{DeadTry}
 
--- The pair at a place
+-- The pair at an index
 
-drop_pair1 : (graph : List Pair) (place : ℕ) (p : Pair) → slice_get graph place ≡ Some p → drop place graph ≡ p ∷ drop (suc place) graph
-drop_pair1 [] place p at = absurd (cc)
+drop_pair1 : (graph : List Pair) (index : ℕ) (p : Pair) → slice_get graph index ≡ Some p → drop index graph ≡ p ∷ drop (suc index) graph
+drop_pair1 [] index p at = absurd (cc)
 drop_pair1 (q ∷ graph) zero p at = let same : q ≡ p = cc in ap (λ (r : Pair). r ∷ graph) same
-drop_pair1 (q ∷ graph) (suc place) p at = drop_pair1 graph place p at
+drop_pair1 (q ∷ graph) (suc index) p at = drop_pair1 graph index p at
 
-pub drop_pair : (graph : List Pair) (place : ℕ) (p : Pair) → slice_get graph place ≡ Some p → drop place graph ≡ p ∷ drop (place + 1) graph
-drop_pair graph place p at = rw add-one (drop_pair1 graph place p at)
+pub drop_pair : (graph : List Pair) (index : ℕ) (p : Pair) → slice_get graph index ≡ Some p → drop index graph ≡ p ∷ drop (index + 1) graph
+drop_pair graph index p at = rw add-one (drop_pair1 graph index p at)
 
--- The dead `try` at a place is listed behind those before it.
-pub next_try : (there : BlockId → Bool) (graph : List Pair) (place : ℕ) (p : Pair) → drop place graph ≡ p ∷ drop (place + 1) graph
+-- The dead `try` at an index is listed behind those before it.
+pub next_try : (there : BlockId → Bool) (graph : List Pair) (index : ℕ) (p : Pair) → drop index graph ≡ p ∷ drop (index + 1) graph
     → (dead : Option DeadTry) → dead ≡ dead_try there p.0 p.1.terminal.kind → (tries listed : List DeadTry) → listed ≡ tries ++ option_to_list dead
-    → listed ++ dead_tries there (drop (place + 1) graph) ≡ tries ++ dead_tries there (drop place graph)
-next_try there graph place p at dead tells tries listed is =
-    ap (λ (t : List DeadTry). t ++ dead_tries there (drop (place + 1) graph)) is
-    ∙ append_assoc tries (option_to_list dead) (dead_tries there (drop (place + 1) graph))
-    ∙ ap (λ (o : Option DeadTry). tries ++ (option_to_list o ++ dead_tries there (drop (place + 1) graph))) tells
+    → listed ++ dead_tries there (drop (index + 1) graph) ≡ tries ++ dead_tries there (drop index graph)
+next_try there graph index p at dead tells tries listed is =
+    ap (λ (t : List DeadTry). t ++ dead_tries there (drop (index + 1) graph)) is
+    ∙ append_assoc tries (option_to_list dead) (dead_tries there (drop (index + 1) graph))
+    ∙ ap (λ (o : Option DeadTry). tries ++ (option_to_list o ++ dead_tries there (drop (index + 1) graph))) tells
     ∙ ap (λ (t : List Pair). tries ++ dead_tries there t) (sym at)
 
--- Changes by places
+-- Changes by indices
 
 pub keys_changed : (id : BlockId) (change : BasicBlock → BasicBlock) (graph : List Pair) → keys_of (with_changed id change graph) ≡ keys_of graph
 keys_changed id change [] = refl
 keys_changed id change (p ∷ graph) = ap (λ (t : List BlockId). p.0 ∷ t) (keys_changed id change graph)
 
--- A change at a place leaves the ids.
-pub keys_changed_at : (place : Option ℕ) (change : BasicBlock → BasicBlock) (graph after : List Pair) → after ≡ changed_at place change graph
+-- A change at an index leaves the ids.
+pub keys_changed_at : (index : Option ℕ) (change : BasicBlock → BasicBlock) (graph after : List Pair) → after ≡ changed_at index change graph
     → keys_of after ≡ keys_of graph
-keys_changed_at place change graph after is = ap keys_of is ∙ by_place place
+keys_changed_at index change graph after is = ap keys_of is ∙ by_index index
   where
-    by_place : (o : Option ℕ) → keys_of (changed_at o change graph) ≡ keys_of graph
-    by_place None = refl
-    by_place (Some n) = by_block (slice_get (values_of graph) n)
+    by_index : (o : Option ℕ) → keys_of (changed_at o change graph) ≡ keys_of graph
+    by_index None = refl
+    by_index (Some n) = by_block (slice_get (values_of graph) n)
       where
         by_block : (b : Option BasicBlock) → keys_of (elim b [ Some block ↦ with_block_at graph n (change block) | None ↦ graph ]) ≡ keys_of graph
         by_block (Some block) = keys_put graph n (change block)
@@ -77,47 +77,47 @@ unchanged_missing id change (p ∷ graph) gone = by_head (same_id id p.0) refl g
     by_head true e h rest = absurd (let some : Some p.1 ≡ None = rw e at h in cc)
     by_head false e h rest = rw e (ap (λ (t : List Pair). p ∷ t) (rest (rw e at h)))
 
-unchanged_later : (id : BlockId) (change : BasicBlock → BasicBlock) (graph : List Pair) → ((place : ℕ) → slice_get (ids graph) place ≡ Some id.0 → ⊥) → graph ≡ with_changed id change graph
+unchanged_later : (id : BlockId) (change : BasicBlock → BasicBlock) (graph : List Pair) → ((index : ℕ) → slice_get (ids graph) index ≡ Some id.0 → ⊥) → graph ≡ with_changed id change graph
 unchanged_later id change [] gone = refl
-unchanged_later id change (p ∷ graph) gone = by_head (same_id id p.0) refl (unchanged_later id change graph (λ place at. gone (suc place) at))
+unchanged_later id change (p ∷ graph) gone = by_head (same_id id p.0) refl (unchanged_later id change graph (λ index at. gone (suc index) at))
   where
     by_head : (b : Bool) → same_id id p.0 ≡ b → graph ≡ with_changed id change graph → p ∷ graph ≡ with_changed id change (p ∷ graph)
     by_head true e rest = absurd (gone 0 (ap (λ (x : BlockId). Some x.0) (sym (one_id id p.0 e))))
     by_head false e rest = rw e (ap (λ (t : List Pair). p ∷ t) rest)
 
-one_change : (id : BlockId) (change : BasicBlock → BasicBlock) (graph : List Pair) (place : ℕ) → HaveOwnIds graph → slice_get (ids graph) place ≡ Some id.0
-    → changed_at (Some place) change graph ≡ with_changed id change graph
-one_change id change [] place own at = absurd (cc)
+one_change : (id : BlockId) (change : BasicBlock → BasicBlock) (graph : List Pair) (index : ℕ) → HaveOwnIds graph → slice_get (ids graph) index ≡ Some id.0
+    → changed_at (Some index) change graph ≡ with_changed id change graph
+one_change id change [] index own at = absurd (cc)
 one_change id change (p ∷ graph) zero own at =
     let same : same_id id p.0 ≡ true = (let n : p.0.0 ≡ id.0 = cc in eq-eqb id.0 p.0.0 (sym n)) in
-    rw same (ap (λ (t : List Pair). (p.0, change p.1) ∷ t) (unchanged_later id change graph (λ place later. (let never : 0 ≡ suc place = own 0 (suc place) id.0 at later in omega arith))))
-one_change id change (p ∷ graph) (suc place) own at =
-    let other : same_id id p.0 ≡ false = (let t : (b : Bool) → same_id id p.0 ≡ b → b ≡ false = apart p graph place id own at in t (same_id id p.0) refl) in
-    by_block (slice_get (values_of graph) place) refl other (one_change id change graph place (distinct_tail p.0.0 (ids graph) own) at)
+    rw same (ap (λ (t : List Pair). (p.0, change p.1) ∷ t) (unchanged_later id change graph (λ index later. (let never : 0 ≡ suc index = own 0 (suc index) id.0 at later in omega arith))))
+one_change id change (p ∷ graph) (suc index) own at =
+    let other : same_id id p.0 ≡ false = (let t : (b : Bool) → same_id id p.0 ≡ b → b ≡ false = apart p graph index id own at in t (same_id id p.0) refl) in
+    by_block (slice_get (values_of graph) index) refl other (one_change id change graph index (distinct_tail p.0.0 (ids graph) own) at)
   where
-    by_block : (o : Option BasicBlock) → slice_get (values_of graph) place ≡ o → same_id id p.0 ≡ false → changed_at (Some place) change graph ≡ with_changed id change graph
-        → changed_at (Some (suc place)) change (p ∷ graph) ≡ with_changed id change (p ∷ graph)
+    by_block : (o : Option BasicBlock) → slice_get (values_of graph) index ≡ o → same_id id p.0 ≡ false → changed_at (Some index) change graph ≡ with_changed id change graph
+        → changed_at (Some (suc index)) change (p ∷ graph) ≡ with_changed id change (p ∷ graph)
     by_block (Some block) is other rest =
-        let rest1 : with_block_at graph place (change block) ≡ with_changed id change graph = rw (is, changed_at) at rest in
+        let rest1 : with_block_at graph index (change block) ≡ with_changed id change graph = rw (is, changed_at) at rest in
         rw (is, changed_at, other) (ap (λ (t : List Pair). p ∷ t) rest1)
     by_block None is other rest =
         let rest1 : graph ≡ with_changed id change graph = rw (is, changed_at) at rest in
         rw (is, changed_at, other) (ap (λ (t : List Pair). p ∷ t) rest1)
 
--- A change at the place of an id is a change of the block of the id.
-pub change_there : (id : BlockId) (change : BasicBlock → BasicBlock) (graph : List Pair) (place : Option ℕ) → HaveOwnIds graph → place ≡ position (same_id id) (keys_of graph)
-    → changed_at place change graph ≡ with_changed id change graph
+-- A change at the index of an id is a change of the block of the id.
+pub change_there : (id : BlockId) (change : BasicBlock → BasicBlock) (graph : List Pair) (index : Option ℕ) → HaveOwnIds graph → index ≡ position (same_id id) (keys_of graph)
+    → changed_at index change graph ≡ with_changed id change graph
 change_there id change graph None own is = unchanged_missing id change graph (Missing-position (same_id id) graph (sym is)).value
-change_there id change graph (Some place) own is =
-    let f = Found-position (same_id id) graph place (sym is) in
-    let k : (key : BlockId) × (slice_get (keys_of graph) place ≡ Some key) × (slice_get (ids graph) place ≡ Some key.0) = get_keys graph place f.within in
+change_there id change graph (Some index) own is =
+    let f = Found-position (same_id id) graph index (sym is) in
+    let k : (key : BlockId) × (slice_get (keys_of graph) index ≡ Some key) × (slice_get (ids graph) index ≡ Some key.0) = get_keys graph index f.within in
     let same : id ≡ k.0 = passes graph id k.0 (f.key ∙ k.1) in
-    one_change id change graph place own (k.2 ∙ ap (λ (x : BlockId). Some x.0) (sym same))
+    one_change id change graph index own (k.2 ∙ ap (λ (x : BlockId). Some x.0) (sym same))
 
-pub preds_changed : (graph after : List Pair) (place : ℕ) (id : BlockId) (block : BasicBlock) (preds : List BlockId) → slice_get (values_of graph) place ≡ Some block
-    → preds ≡ filter (λ (other : BlockId). not (same_id id other)) block.preds → after ≡ with_block_at graph place (record block { preds = preds })
-    → after ≡ changed_at (Some place) (without_predecessor id) graph
-preds_changed graph after place id block preds at is put = rw (at, changed_at) (put ∙ ap (λ (l : List BlockId). with_block_at graph place (record block { preds = l })) is)
+pub preds_changed : (graph after : List Pair) (index : ℕ) (id : BlockId) (block : BasicBlock) (preds : List BlockId) → slice_get (values_of graph) index ≡ Some block
+    → preds ≡ filter (λ (other : BlockId). not (same_id id other)) block.preds → after ≡ with_block_at graph index (record block { preds = preds })
+    → after ≡ changed_at (Some index) (without_predecessor id) graph
+preds_changed graph after index id block preds at is put = rw (at, changed_at) (put ∙ ap (λ (l : List BlockId). with_block_at graph index (record block { preds = l })) is)
 
 -- A `try` is dropped
 
@@ -161,11 +161,11 @@ any_insert_same key lost = by_any (list_any (same_id key) lost) refl
     by_any true e = e
     by_any false e = list_any-append (same_id key) lost (key ∷ []) ∙ rw same (or_true (list_any (same_id key) lost))
 
-in_at : (p : Pair) (graph : List Pair) → In p graph → (place : ℕ) × (slice_get (ids graph) place ≡ Some p.0.0)
+in_at : (p : Pair) (graph : List Pair) → In p graph → (index : ℕ) × (slice_get (ids graph) index ≡ Some p.0.0)
 in_at p [] h = absurd h
 in_at p (q ∷ graph) h = elim h [
   | inl same ↦ (0, ap (λ (r : Pair). Some r.0.0) same)
-  | inr rest ↦ (let i : (place : ℕ) × (slice_get (ids graph) place ≡ Some p.0.0) = in_at p graph rest in (suc i.0, i.1))
+  | inr rest ↦ (let i : (index : ℕ) × (slice_get (ids graph) index ≡ Some p.0.0) = in_at p graph rest in (suc i.0, i.1))
 ]
 
 in_found : (p : Pair) (graph : List Pair) → HaveOwnIds graph → In p graph → block_at graph p.0 ≡ Some p.1
@@ -173,7 +173,7 @@ in_found p [] own h = absurd h
 in_found p (q ∷ graph) own h = elim h [
   | inl same ↦ (let first : block_at (q ∷ graph) q.0 ≡ Some q.1 = (let e : same_id q.0 q.0 ≡ true = eq-eqb q.0.0 q.0.0 refl in rw e refl) in subst (λ (r : Pair). block_at (q ∷ graph) r.0 ≡ Some r.1) same first)
   | inr rest ↦
-      (let i : (place : ℕ) × (slice_get (ids graph) place ≡ Some p.0.0) = in_at p graph rest in
+      (let i : (index : ℕ) × (slice_get (ids graph) index ≡ Some p.0.0) = in_at p graph rest in
       let other : same_id p.0 q.0 ≡ false = (let t : (b : Bool) → same_id p.0 q.0 ≡ b → b ≡ false = apart q graph i.0 p.0 own i.1 in t (same_id p.0 q.0) refl) in
       rw other (in_found p graph (distinct_tail q.0.0 (ids graph) own) rest))
 ]
@@ -239,10 +239,10 @@ length-keys (p ∷ graph) = ap suc (length-keys graph)
 pub same_length : (graph now : List Pair) → keys_of now ≡ keys_of graph → length now ≡ length graph
 same_length graph now same = sym (length-keys now) ∙ ap length same ∙ length-keys graph
 
--- A place of the index is one of the blocks.
-pub place_within : (keys : List BlockId) (graph : List Pair) (place : Option ℕ) → IfSome place (λ p. p < length keys) → keys ≡ keys_of graph → IfSome place (λ p. p < length graph)
-place_within keys graph None h is = tt
-place_within keys graph (Some place) h is = omega (arith, h, ap length is, length-keys graph)
+-- An index that a look-up by id gives is that of a block.
+pub index_within : (keys : List BlockId) (graph : List Pair) (index : Option ℕ) → IfSome index (λ p. p < length keys) → keys ≡ keys_of graph → IfSome index (λ p. p < length graph)
+index_within keys graph None h is = tt
+index_within keys graph (Some index) h is = omega (arith, h, ap length is, length-keys graph)
 
 fold_next : (now : List Pair) (tries : List DeadTry) (index : ℕ) (dead : DeadTry) → index < length tries
     → fold (λ (b : List Pair) (d : DeadTry). without_try d b) (without_try (get_or tries index dead) now) (drop (index + 1) tries) ≡ fold (λ (b : List Pair) (d : DeadTry). without_try d b) now (drop index tries)

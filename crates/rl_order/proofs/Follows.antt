@@ -19,13 +19,13 @@ pub back_step : (from : BlockId) (ids : List BlockId) (back : ℕ) (d : BlockId)
     → reverse left1 ≡ map (λ (to : BlockId). record { from = from; to = to }) (drop (length ids - (back + 1)) ids) ++ old
 back_step from ids back d left left1 old within is h =
     let edge_to : BlockId → Edge = λ (to : BlockId). record { from = from; to = to } in
-    let place : ℕ = length ids - 1 - back in
-    let here : length ids - (back + 1) ≡ place = omega arith in
-    let next : suc place ≡ length ids - back = omega arith in
-    let inside : place < length ids = omega arith in
-    let split : drop (length ids - (back + 1)) ids ≡ get_or ids place d ∷ drop (length ids - back) ids =
-    ap (λ n. drop n ids) here ∙ drop-cons ids place d inside ∙ ap (λ n. get_or ids place d ∷ drop n ids) next in
-    ap (λ (t : List Edge). reverse t) is ∙ reverse-append left (edge_to (get_or ids place d) ∷ []) ∙ ap (λ (t : List Edge). edge_to (get_or ids place d) ∷ t) h
+    let index : ℕ = length ids - 1 - back in
+    let here : length ids - (back + 1) ≡ index = omega arith in
+    let next : suc index ≡ length ids - back = omega arith in
+    let inside : index < length ids = omega arith in
+    let split : drop (length ids - (back + 1)) ids ≡ get_or ids index d ∷ drop (length ids - back) ids =
+    ap (λ n. drop n ids) here ∙ drop-cons ids index d inside ∙ ap (λ n. get_or ids index d ∷ drop n ids) next in
+    ap (λ (t : List Edge). reverse t) is ∙ reverse-append left (edge_to (get_or ids index d) ∷ []) ∙ ap (λ (t : List Edge). edge_to (get_or ids index d) ∷ t) h
     ∙ ap (λ (t : List BlockId). map edge_to t ++ old) (sym split)
 
 module _ (graph : List Pair) (e : Edge) (work : List Edge) (seen : List BlockId) (edges : List Edge) where

@@ -16,7 +16,6 @@ pub mod NumberedOrders
 pub mod NumberingSteps
 pub mod Ordering
 pub mod PassExamples
-pub mod PlaceSteps
 pub mod PredecessorsReached
 pub mod PrunedBlocks
 pub mod Pruning
@@ -24,5 +23,6 @@ pub mod RemovalSteps
 pub mod SameWalks
 pub mod SourceLists
 pub mod Stack
+pub mod TakenBlocks
 pub mod Totals
 pub mod WholeGraphs

@@ -22,7 +22,7 @@ pub numbers_below : (bound : ℕ) (ids : List InstructionId) → All (λ (id : I
     → IsIn (map (λ (id : InstructionId). id.0) ids) n → n < bound
 numbers_below bound [] below n h = absurd (in_none n h)
 numbers_below bound (id ∷ ids) below n h =
-    by_index h.index h.found (numbers_below bound ids (λ place d within. below (suc place) d (omega arith)) n)
+    by_index h.index h.found (numbers_below bound ids (λ index d within. below (suc index) d (omega arith)) n)
   where
     by_index : (index : ℕ) → slice_get (id.0 ∷ numbers ids) index ≡ Some n → (IsIn (numbers ids) n → n < bound) → n < bound
     by_index zero e rest = (let same : id.0 ≡ n = cc in omega (arith, same, below 0 id (omega arith)))
@@ -248,7 +248,7 @@ pub listed_below : (bound : ℕ) (blocks : List Pair)
 listed_below bound [] below n h = absurd (in_none n h)
 listed_below bound (b ∷ blocks) below n h = elim (in_either (numbers b.1.instructions) (listed_in blocks) n h) [
   | inl own ↦ numbers_below bound b.1.instructions (below 0 b (omega arith)) n own
-  | inr rest ↦ listed_below bound blocks (λ place d within. below (suc place) d (omega arith)) n rest
+  | inr rest ↦ listed_below bound blocks (λ index d within. below (suc index) d (omega arith)) n rest
 ]
 
 -- The promises of `mark_instruction_ids` about orders, from the blocks and the table that it leaves.

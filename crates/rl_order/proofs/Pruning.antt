@@ -44,24 +44,24 @@ blocks_total (p ∷ pairs) = let rest : length pairs ≡ total one_each pairs = 
 
 -- The number of orders.
 
-abbrev places : List InstructionId → ℕ
-places ids = length ids + 1
+abbrev orders_taken : List InstructionId → ℕ
+orders_taken ids = length ids + 1
 
-orders_total : (pairs : List Pair) → orders_of pairs ≡ total places pairs
+orders_total : (pairs : List Pair) → orders_of pairs ≡ total orders_taken pairs
 orders_total [] = refl
-orders_total (p ∷ pairs) = let rest : orders_of pairs ≡ total places pairs = orders_total pairs in omega (arith, rest)
+orders_total (p ∷ pairs) = let rest : orders_of pairs ≡ total orders_taken pairs = orders_total pairs in omega (arith, rest)
 
-fewer_orders : (pairs left : List Pair) → total places left ≤ total places pairs → orders_of left ≤ orders_of pairs
+fewer_orders : (pairs left : List Pair) → total orders_taken left ≤ total orders_taken pairs → orders_of left ≤ orders_of pairs
 fewer_orders pairs left fewer =
     let before = orders_total pairs in
     let behind = orders_total left in
     omega (arith, fewer, before, behind)
 
 pub ordered_orders : (graph : List Pair) (entry : BlockId) (ordered : List Pair) → IsOrdered graph entry ordered → orders_of ordered ≤ orders_of graph
-ordered_orders graph entry ordered o = fewer_orders graph ordered (order_total places (λ ids. omega arith) graph entry ordered o)
+ordered_orders graph entry ordered o = fewer_orders graph ordered (order_total orders_taken (λ ids. omega arith) graph entry ordered o)
 
 pub cleaned_orders : (ordered : List Pair) → orders_of (cleaned ordered) ≤ orders_of ordered
-cleaned_orders ordered = fewer_orders ordered (cleaned ordered) (cleaned_total places ordered)
+cleaned_orders ordered = fewer_orders ordered (cleaned ordered) (cleaned_total orders_taken ordered)
 
 -- The instructions that lie outside of the table.
 
@@ -119,7 +119,7 @@ pub cleaned_within : (bound : ℕ) (ordered : List Pair) → All (λ p. All (λ 
     → All (λ p. All (λ id. id.0 < bound) p.1.instructions) (cleaned ordered)
 cleaned_within bound ordered all = fewer_past bound ordered (cleaned ordered) (cleaned_total (past bound) ordered) all
 
--- The places where an instruction is listed.
+-- The number of times that an instruction is listed.
 
 abbrev times : ℕ → List ℕ → ℕ
 times n [] = 0

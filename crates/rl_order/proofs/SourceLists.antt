@@ -13,37 +13,37 @@ use Rattle.rl_order.specs.PredecessorWalk.{IsMarked, WalksAlong, source_lists, s
 use Rattle.rl_order.specs.Walked.{with_lists, with_source}
 use Rattle.rl_order.specs.declared.predecessors.Edge.{Edge}
 
--- The ids of two places differ.
-pub apart : (p : Pair) (graph : List Pair) (place : ℕ) (id : BlockId) → HaveOwnIds (p ∷ graph) → slice_get (ids graph) place ≡ Some id.0 → (test : Bool) → same_id id p.0 ≡ test → test ≡ false
-apart p graph place id own at true is =
+-- The ids of two indices differ.
+pub apart : (p : Pair) (graph : List Pair) (index : ℕ) (id : BlockId) → HaveOwnIds (p ∷ graph) → slice_get (ids graph) index ≡ Some id.0 → (test : Bool) → same_id id p.0 ≡ test → test ≡ false
+apart p graph index id own at true is =
     let same : id ≡ p.0 = one_id id p.0 is in
-    absurd (let never : 0 ≡ suc place = own 0 (suc place) p.0.0 refl (at ∙ ap (λ (x : BlockId). Some x.0) same) in omega arith)
-apart p graph place id own at false is = refl
+    absurd (let never : 0 ≡ suc index = own 0 (suc index) p.0.0 refl (at ∙ ap (λ (x : BlockId). Some x.0) same) in omega arith)
+apart p graph index id own at false is = refl
 
 -- The id of a block is not among those before it.
-pub fresh_id : (graph : List Pair) (place : ℕ) (id : BlockId) → HaveOwnIds graph → slice_get (ids graph) place ≡ Some id.0 → list_any (same_id id) (take place (keys_of graph)) ≡ false
-fresh_id [] place id own at = absurd (cc)
+pub fresh_id : (graph : List Pair) (index : ℕ) (id : BlockId) → HaveOwnIds graph → slice_get (ids graph) index ≡ Some id.0 → list_any (same_id id) (take index (keys_of graph)) ≡ false
+fresh_id [] index id own at = absurd (cc)
 fresh_id (p ∷ graph) zero id own at = refl
-fresh_id (p ∷ graph) (suc place) id own at =
-    let other : same_id id p.0 ≡ false = (let t : (b : Bool) → same_id id p.0 ≡ b → b ≡ false = apart p graph place id own at in t (same_id id p.0) refl) in
-    rw other (fresh_id graph place id (distinct_tail p.0.0 (ids graph) own) at)
+fresh_id (p ∷ graph) (suc index) id own at =
+    let other : same_id id p.0 ≡ false = (let t : (b : Bool) → same_id id p.0 ≡ b → b ≡ false = apart p graph index id own at in t (same_id id p.0) refl) in
+    rw other (fresh_id graph index id (distinct_tail p.0.0 (ids graph) own) at)
 
-pub id_at : (graph : List Pair) (place : ℕ) (p : Pair) → slice_get graph place ≡ Some p → slice_get (ids graph) place ≡ Some p.0.0
-id_at [] place p at = absurd (cc)
+pub id_at : (graph : List Pair) (index : ℕ) (p : Pair) → slice_get graph index ≡ Some p → slice_get (ids graph) index ≡ Some p.0.0
+id_at [] index p at = absurd (cc)
 id_at (q ∷ graph) zero p at = let same : q ≡ p = cc in ap (λ (r : Pair). Some r.0.0) same
-id_at (q ∷ graph) (suc place) p at = id_at graph place p at
+id_at (q ∷ graph) (suc index) p at = id_at graph index p at
 
-key_more : (graph : List Pair) (place : ℕ) (p : Pair) → slice_get graph place ≡ Some p → take (suc place) (keys_of graph) ≡ take place (keys_of graph) ++ p.0 ∷ []
-key_more [] place p at = absurd (cc)
+key_more : (graph : List Pair) (index : ℕ) (p : Pair) → slice_get graph index ≡ Some p → take (suc index) (keys_of graph) ≡ take index (keys_of graph) ++ p.0 ∷ []
+key_more [] index p at = absurd (cc)
 key_more (q ∷ graph) zero p at = let same : q ≡ p = cc in ap (λ (r : Pair). r.0 ∷ []) same
-key_more (q ∷ graph) (suc place) p at = ap (λ (t : List BlockId). q.0 ∷ t) (key_more graph place p at)
+key_more (q ∷ graph) (suc index) p at = ap (λ (t : List BlockId). q.0 ∷ t) (key_more graph index p at)
 
 -- The index of ids has one more.
-pub one_more_key : (graph : List Pair) (place : ℕ) (p : Pair) (keys keys1 : List BlockId) → HaveOwnIds graph → slice_get graph place ≡ Some p
-    → keys1 ≡ insert_key same_id keys p.0 → keys ≡ take place (keys_of graph) → keys1 ≡ take (place + 1) (keys_of graph)
-one_more_key graph place p keys keys1 own at is before =
-    let fresh : list_any (same_id p.0) keys ≡ false = ap (list_any (same_id p.0)) before ∙ fresh_id graph place p.0 own (id_at graph place p at) in
-    rw add-one (is ∙ ap (λ (b : Bool). if b then keys else keys ++ p.0 ∷ []) fresh ∙ ap (λ (t : List BlockId). t ++ p.0 ∷ []) before ∙ sym (key_more graph place p at))
+pub one_more_key : (graph : List Pair) (index : ℕ) (p : Pair) (keys keys1 : List BlockId) → HaveOwnIds graph → slice_get graph index ≡ Some p
+    → keys1 ≡ insert_key same_id keys p.0 → keys ≡ take index (keys_of graph) → keys1 ≡ take (index + 1) (keys_of graph)
+one_more_key graph index p keys keys1 own at is before =
+    let fresh : list_any (same_id p.0) keys ≡ false = ap (list_any (same_id p.0)) before ∙ fresh_id graph index p.0 own (id_at graph index p at) in
+    rw add-one (is ∙ ap (λ (b : Bool). if b then keys else keys ++ p.0 ∷ []) fresh ∙ ap (λ (t : List BlockId). t ++ p.0 ∷ []) before ∙ sym (key_more graph index p at))
 
 -- A further edge
 
@@ -79,31 +79,31 @@ none_hit (p ∷ graph) e done gone = by_head (same_id e.to p.0) refl gone (none_
         let later : block_at graph e.to ≡ None = rw h at at in
         (λ j. source_miss e done p.0 h j ∷ rest later j)
 
-none_later : (graph : List Pair) (e : Edge) (done : List Edge) → ((place : ℕ) (test : Bool) → slice_get (ids graph) place ≡ Some e.to.0 → ⊥) → source_lists (done ++ e ∷ []) graph ≡ source_lists done graph
+none_later : (graph : List Pair) (e : Edge) (done : List Edge) → ((index : ℕ) (test : Bool) → slice_get (ids graph) index ≡ Some e.to.0 → ⊥) → source_lists (done ++ e ∷ []) graph ≡ source_lists done graph
 none_later [] e done gone = refl
-none_later (p ∷ graph) e done gone = by_head (same_id e.to p.0) refl (none_later graph e done (λ place test at. gone (suc place) test at))
+none_later (p ∷ graph) e done gone = by_head (same_id e.to p.0) refl (none_later graph e done (λ index test at. gone (suc index) test at))
   where
     by_head : (b : Bool) → same_id e.to p.0 ≡ b → source_lists (done ++ e ∷ []) graph ≡ source_lists done graph → source_lists (done ++ e ∷ []) (p ∷ graph) ≡ source_lists done (p ∷ graph)
     by_head true h rest = absurd (gone 0 true (ap (λ (x : BlockId). Some x.0) (sym (one_id e.to p.0 h))))
     by_head false h rest = (λ j. source_miss e done p.0 h j ∷ rest j)
 
--- The block at a place has the id that the edge leads to.
-one_hit : (graph : List Pair) (place : ℕ) (e : Edge) (done : List Edge) → HaveOwnIds graph → slice_get (ids graph) place ≡ Some e.to.0
-    → with_source (Some place) e.from (source_lists done graph) ≡ source_lists (done ++ e ∷ []) graph
-one_hit [] place e done own at = absurd (cc)
+-- The block at an index has the id that the edge leads to.
+one_hit : (graph : List Pair) (index : ℕ) (e : Edge) (done : List Edge) → HaveOwnIds graph → slice_get (ids graph) index ≡ Some e.to.0
+    → with_source (Some index) e.from (source_lists done graph) ≡ source_lists (done ++ e ∷ []) graph
+one_hit [] index e done own at = absurd (cc)
 one_hit (p ∷ graph) zero e done own at =
     let same : e.to ≡ p.0 = (let n : p.0.0 ≡ e.to.0 = cc in ap (λ (n : ℕ). record { 0 = n }) (sym n)) in
-    (λ j. sym (source_hit e done p.0 same) j ∷ sym (none_later graph e done (λ place test later. (let never : 0 ≡ suc place = own 0 (suc place) e.to.0 at later in omega arith))) j)
-one_hit (p ∷ graph) (suc place) e done own at =
-    let other : same_id e.to p.0 ≡ false = (let t : (b : Bool) → same_id e.to p.0 ≡ b → b ≡ false = apart p graph place e.to own at in t (same_id e.to p.0) refl) in
-    by_list (slice_get (source_lists done graph) place) refl (one_hit graph place e done (distinct_tail p.0.0 (ids graph) own) at) (source_miss e done p.0 other)
+    (λ j. sym (source_hit e done p.0 same) j ∷ sym (none_later graph e done (λ index test later. (let never : 0 ≡ suc index = own 0 (suc index) e.to.0 at later in omega arith))) j)
+one_hit (p ∷ graph) (suc index) e done own at =
+    let other : same_id e.to p.0 ≡ false = (let t : (b : Bool) → same_id e.to p.0 ≡ b → b ≡ false = apart p graph index e.to own at in t (same_id e.to p.0) refl) in
+    by_list (slice_get (source_lists done graph) index) refl (one_hit graph index e done (distinct_tail p.0.0 (ids graph) own) at) (source_miss e done p.0 other)
   where
-    by_list : (o : Option (List BlockId)) → slice_get (source_lists done graph) place ≡ o
-        → with_source (Some place) e.from (source_lists done graph) ≡ source_lists (done ++ e ∷ []) graph
+    by_list : (o : Option (List BlockId)) → slice_get (source_lists done graph) index ≡ o
+        → with_source (Some index) e.from (source_lists done graph) ≡ source_lists (done ++ e ∷ []) graph
         → sources (done ++ e ∷ []) p.0 ≡ sources done p.0
-        → with_source (Some (suc place)) e.from (source_lists done (p ∷ graph)) ≡ source_lists (done ++ e ∷ []) (p ∷ graph)
+        → with_source (Some (suc index)) e.from (source_lists done (p ∷ graph)) ≡ source_lists (done ++ e ∷ []) (p ∷ graph)
     by_list (Some list) is rest first =
-        let rest1 : slice_set (source_lists done graph) place (list ++ e.from ∷ []) ≡ source_lists (done ++ e ∷ []) graph = rw (is, with_source) at rest in
+        let rest1 : slice_set (source_lists done graph) index (list ++ e.from ∷ []) ≡ source_lists (done ++ e ∷ []) graph = rw (is, with_source) at rest in
         rw (is, with_source) (λ j. sym first j ∷ rest1 j)
     by_list None is rest first =
         let rest1 : source_lists done graph ≡ source_lists (done ++ e ∷ []) graph = rw (is, with_source) at rest in
@@ -117,20 +117,20 @@ passes (p ∷ graph) to key h = by_head (same_id to p.0) refl h (passes graph to
     by_head true is at rest = let first : p.0 ≡ key = (let some : Some p.0 ≡ Some key = rw is at at in cc) in one_id to p.0 is ∙ first
     by_head false is at rest = rest (rw is at at)
 
-pub get_keys : (graph : List Pair) (place : ℕ) → place < length graph → (key : BlockId) × (slice_get (keys_of graph) place ≡ Some key) × (slice_get (ids graph) place ≡ Some key.0)
-get_keys [] place within = absurd (omega arith)
+pub get_keys : (graph : List Pair) (index : ℕ) → index < length graph → (key : BlockId) × (slice_get (keys_of graph) index ≡ Some key) × (slice_get (ids graph) index ≡ Some key.0)
+get_keys [] index within = absurd (omega arith)
 get_keys (p ∷ graph) zero within = (p.0, refl, refl)
-get_keys (p ∷ graph) (suc place) within = get_keys graph place (omega arith)
+get_keys (p ∷ graph) (suc index) within = get_keys graph index (omega arith)
 
--- A further edge is counted at the place of the block that it leads to.
-pub one_more_source : (graph : List Pair) (e : Edge) (done : List Edge) (place : Option ℕ) → HaveOwnIds graph → place ≡ position (same_id e.to) (keys_of graph)
-    → with_source place e.from (source_lists done graph) ≡ source_lists (done ++ e ∷ []) graph
+-- A further edge is counted at the index of the block that it leads to.
+pub one_more_source : (graph : List Pair) (e : Edge) (done : List Edge) (index : Option ℕ) → HaveOwnIds graph → index ≡ position (same_id e.to) (keys_of graph)
+    → with_source index e.from (source_lists done graph) ≡ source_lists (done ++ e ∷ []) graph
 one_more_source graph e done None own is = sym (none_hit graph e done (Missing-position (same_id e.to) graph (sym is)).value)
-one_more_source graph e done (Some place) own is =
-    let f = Found-position (same_id e.to) graph place (sym is) in
-    let k : (key : BlockId) × (slice_get (keys_of graph) place ≡ Some key) × (slice_get (ids graph) place ≡ Some key.0) = get_keys graph place f.within in
+one_more_source graph e done (Some index) own is =
+    let f = Found-position (same_id e.to) graph index (sym is) in
+    let k : (key : BlockId) × (slice_get (keys_of graph) index ≡ Some key) × (slice_get (ids graph) index ≡ Some key.0) = get_keys graph index f.within in
     let same : e.to ≡ k.0 = passes graph e.to k.0 (f.key ∙ k.1) in
-    one_hit graph place e done own (k.2 ∙ ap (λ (x : BlockId). Some x.0) (sym same))
+    one_hit graph index e done own (k.2 ∙ ap (λ (x : BlockId). Some x.0) (sym same))
 
 -- A further list is empty.
 pub one_more_list : (graph : List Pair) (count : ℕ) → count < length graph → take (count + 1) (source_lists [] graph) ≡ take count (source_lists [] graph) ++ [] ∷ []

@@ -27,10 +27,10 @@ unseen_edges (p ∷ pairs) seen = (if list_any (same_id p.0) seen then 0 else le
 abbrev pub left_of : List Pair → Walk → ℕ
 left_of graph walk = length walk.left.items + unseen_edges graph walk.seen.keys
 
--- The lists with one more source in that at a place, if there is one.
-abbrev pub with_source : (place : Option ℕ) → BlockId → List (List BlockId) → List (List BlockId)
+-- The lists with one more source in that at an index, if there is one.
+abbrev pub with_source : (index : Option ℕ) → BlockId → List (List BlockId) → List (List BlockId)
 with_source None from lists = lists
-with_source (Some place) from lists = elim (slice_get lists place) [ Some list ↦ slice_set lists place (list ++ from ∷ []) | None ↦ lists ]
+with_source (Some index) from lists = elim (slice_get lists index) [ Some list ↦ slice_set lists index (list ++ from ∷ []) | None ↦ lists ]
 
 -- The first blocks with these lists as predecessors, and those behind them as they are.
 abbrev pub with_lists : List Pair → List (List BlockId) → List Pair

@@ -51,8 +51,8 @@ fn leads_inside<B: Blocks>(
 pub fn is_whole<B: Blocks>(alloc: Global, hir: &Hir<B>) -> Result<bool, OutOfMemory>
     ensures { IfOk result (λ whole. IsTrue whole ↔ IsWhole (B.pairs hir.now.blocks) hir.now.entry) }
 {
-    for place in 0..hir.blocks.len() {
-        let (_, block) = hir.blocks.at(place);
+    for index in 0..hir.blocks.len() {
+        let (_, block) = hir.blocks.at(index);
         if !leads_inside(alloc, &hir.blocks, block)? {
             return Ok(false);
         }
@@ -78,8 +78,8 @@ pub fn has_orders<B: Blocks>(hir: &Hir<B>, table: usize) -> bool
     ensures { IsTrue result ↔ HaveOrders table (B.pairs hir.now.blocks) }
 {
     let mut count: u32 = 0;
-    for place in 0..hir.blocks.len() {
-        let (_, block) = hir.blocks.at(place);
+    for index in 0..hir.blocks.len() {
+        let (_, block) = hir.blocks.at(index);
         let listed = block.instructions.as_slice();
         if !are_within(listed, table) {
             return false;

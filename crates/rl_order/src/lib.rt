@@ -2,9 +2,9 @@
 #![tactic(auto)]
 
 pub mod checks;
+pub mod indices;
 pub mod numbering;
 pub mod order;
-pub mod places;
 pub mod predecessors;
 pub mod prune;
 pub mod removals;

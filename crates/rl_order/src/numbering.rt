@@ -6,7 +6,7 @@ ghost use Rattle.rl_hir.specs.Numbered.{IsCounted, IsNumbered, listed_in};
 ghost use Rattle.rl_hir.specs.Terminals.{with_order};
 ghost use Rattle.rl_order.specs.Numbering.{ordered_list, ordered_blocks, ordered_table, orders_of};
 
-use crate::places::take_block;
+use crate::indices::take_block;
 use rl_base::ids::{EvaluationOrder, InstructionId};
 use rl_hir::blocks::Blocks;
 use rl_hir::function::{BasicBlock, Hir};
@@ -53,9 +53,9 @@ pub fn mark_instruction_ids<B: Blocks>(hir: &mut Hir<B>, table: &mut [Instructio
     ensures numbered { AreDistinct (listed_in (B.pairs hir.old.blocks)) → All (λ i. i.order.0 ≡ 0) table.old → IsNumbered table.new (B.pairs hir.new.blocks) }
 {
     let mut last = 0;
-    for place in 0..hir.blocks.len() {
-        let mut block = take_block(&mut hir.blocks, place);
+    for index in 0..hir.blocks.len() {
+        let mut block = take_block(&mut hir.blocks, index);
         last = mark_block(&mut block, table, last);
-        let _ = hir.blocks.set_at(place, block);
+        let _ = hir.blocks.set_at(index, block);
     }
 }

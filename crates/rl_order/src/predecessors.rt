@@ -7,7 +7,7 @@ ghost use Rattle.rl_order.specs.PredecessorWalk.{IsMarked, WalksAlong, distinct_
 ghost use Rattle.rl_order.specs.Predecessors.{PredecessorsReached};
 ghost use Rattle.rl_order.specs.Walked.{Goes, left_of, trail_of, with_lists, with_source, worklist};
 
-use crate::places::{place_index, take_block};
+use crate::indices::{index_by_id, take_block};
 use crate::room::set_with_room;
 use rl_base::error::OutOfMemory;
 use rl_base::ids::BlockId;
@@ -144,18 +144,18 @@ fn empty_lists<B: Blocks>(alloc: Global, blocks: &B) -> Result<Vec<List<BlockId>
     Ok(lists)
 }
 
-/// Appends a source to the list at a place, if there is one. On `OutOfMemory`, an allocation failed.
+/// Appends a source to the list at an index, if there is one. On `OutOfMemory`, an allocation failed.
 fn add_source(
     lists: &mut Vec<List<BlockId>>,
-    place: Option<usize>,
+    index: Option<usize>,
     from: BlockId,
 ) -> Result<(), OutOfMemory>
-    ensures { OnOk result (lists.new.items ≡ with_source place from lists.old.items) }
+    ensures { OnOk result (lists.new.items ≡ with_source index from lists.old.items) }
 {
-    if let Some(place) = place
-        && place < lists.len()
+    if let Some(index) = index
+        && index < lists.len()
     {
-        lists[place].push(from)?;
+        lists[index].push(from)?;
     }
     Ok(())
 }
@@ -168,10 +168,10 @@ fn predecessor_lists<B: Blocks>(
 ) -> Result<Vec<List<BlockId>>, OutOfMemory>
     ensures { IfOk result (λ lists. lists.items ≡ source_lists edges.now (B.pairs blocks.now)) }
 {
-    let places = place_index(alloc, blocks)?;
+    let indices = index_by_id(alloc, blocks)?;
     let mut lists = empty_lists(alloc, blocks)?;
     for edge in edges {
-        add_source(&mut lists, places.get_index_of(&edge.to), edge.from)?;
+        add_source(&mut lists, indices.get_index_of(&edge.to), edge.from)?;
     }
     Ok(lists)
 }
@@ -183,10 +183,10 @@ fn set_predecessors<B: Blocks>(blocks: &mut B, lists: Vec<List<BlockId>>)
 {
     let mut lists = lists;
     while let Some(list) = lists.pop() {
-        let place = lists.len();
-        let mut block = take_block(blocks, place);
+        let index = lists.len();
+        let mut block = take_block(blocks, index);
         block.preds = list;
-        let _ = blocks.set_at(place, block);
+        let _ = blocks.set_at(index, block);
     }
 }
 

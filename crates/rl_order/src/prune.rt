@@ -40,12 +40,12 @@ fn drop_dead_ends<B: Blocks>(alloc: Global, blocks: &mut B) -> Result<Vec<DeadTr
     ensures keys { keys_of (B.pairs blocks.new) ≡ keys_of (B.pairs blocks.old) }
 {
     let mut tries = Vec::new(alloc);
-    for place in 0..blocks.len() {
-        let (id, block) = blocks.at(place);
+    for index in 0..blocks.len() {
+        let (id, block) = blocks.at(index);
         let dead = dead_try(blocks, id, &block.terminal.kind);
         let kind = live_kind(blocks, &block.terminal.kind);
         note_dead(&mut tries, dead)?;
-        change_kind(blocks, place, kind);
+        change_kind(blocks, index, kind);
     }
     Ok(tries)
 }

@@ -6,7 +6,7 @@ ghost use Rattle.rl_hir.specs.Blocks.{with_block_at};
 ghost use Rattle.rl_hir.specs.declared.function.BasicBlock.{BasicBlock};
 ghost use Rattle.rl_order.specs.Removals.{is_there, live_do_while, live_for, with_kind, without_dead_do_whiles, without_unreachable_updates};
 
-use crate::places::take_block;
+use crate::indices::take_block;
 use rl_base::ids::BlockId;
 use rl_hir::blocks::Blocks;
 use rl_hir::function::Hir;
@@ -19,17 +19,17 @@ pub fn is_there<B: Blocks>(blocks: &B, id: BlockId) -> bool
     blocks.get(id).is_some()
 }
 
-/// Gives the terminal of the block at a place another kind, if there is one.
+/// Gives the terminal of the block at an index another kind, if there is one.
 #[tactic(auto, using(crate::proofs::RemovalSteps::unchanged))]
-pub(crate) fn change_kind<B: Blocks>(blocks: &mut B, place: usize, kind: Option<TerminalKind>)
-    requires { place < length (B.pairs blocks.old) }
-    ensures { (block : BasicBlock) → slice_get (values_of (B.pairs blocks.old)) place ≡ Some block → B.pairs blocks.new ≡ with_block_at (B.pairs blocks.old) place (with_kind block (unwrap_or kind block.terminal.kind)) }
+pub(crate) fn change_kind<B: Blocks>(blocks: &mut B, index: usize, kind: Option<TerminalKind>)
+    requires { index < length (B.pairs blocks.old) }
+    ensures { (block : BasicBlock) → slice_get (values_of (B.pairs blocks.old)) index ≡ Some block → B.pairs blocks.new ≡ with_block_at (B.pairs blocks.old) index (with_kind block (unwrap_or kind block.terminal.kind)) }
 {
     match kind {
         Some(kind) => {
-            let mut block = take_block(blocks, place);
+            let mut block = take_block(blocks, index);
             block.terminal.kind = kind;
-            let _ = blocks.set_at(place, block);
+            let _ = blocks.set_at(index, block);
         }
         None => {}
     }
@@ -99,10 +99,10 @@ pub(crate) fn live_kind<B: Blocks>(blocks: &B, kind: &TerminalKind) -> Option<Te
 fn drop_updates<B: Blocks>(blocks: &mut B)
     ensures { B.pairs blocks.new ≡ without_unreachable_updates (B.pairs blocks.old) }
 {
-    for place in 0..blocks.len() {
-        let (_, block) = blocks.at(place);
+    for index in 0..blocks.len() {
+        let (_, block) = blocks.at(index);
         let kind = without_update(blocks, &block.terminal.kind);
-        change_kind(blocks, place, kind);
+        change_kind(blocks, index, kind);
     }
 }
 
@@ -110,10 +110,10 @@ fn drop_updates<B: Blocks>(blocks: &mut B)
 fn drop_tests<B: Blocks>(blocks: &mut B)
     ensures { B.pairs blocks.new ≡ without_dead_do_whiles (B.pairs blocks.old) }
 {
-    for place in 0..blocks.len() {
-        let (_, block) = blocks.at(place);
+    for index in 0..blocks.len() {
+        let (_, block) = blocks.at(index);
         let kind = without_test(blocks, &block.terminal.kind);
-        change_kind(blocks, place, kind);
+        change_kind(blocks, index, kind);
     }
 }
 

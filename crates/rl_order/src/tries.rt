@@ -9,7 +9,7 @@ ghost use Rattle.rl_order.specs.Kept.{changed_at};
 ghost use Rattle.rl_order.specs.Removals.{dead_tries, dead_try, ended_by_goto, is_alone, is_there, without_dead_tries, without_predecessor, without_try};
 ghost use Rattle.rl_order.specs.TrySteps.{has_alone};
 
-use crate::places::{place_index, take_block};
+use crate::indices::{index_by_id, take_block};
 use crate::removals::is_there;
 use rl_base::error::OutOfMemory;
 use rl_base::ids::{BlockId, EvaluationOrder};
@@ -73,23 +73,23 @@ fn dead_tries<B: Blocks>(alloc: Global, blocks: &B) -> Result<Vec<DeadTry>, OutO
     ensures { IfOk result (λ tries. tries.items ≡ dead_tries (is_there (B.pairs blocks.now)) (B.pairs blocks.now)) }
 {
     let mut tries = Vec::new(alloc);
-    for place in 0..blocks.len() {
-        let (id, block) = blocks.at(place);
+    for index in 0..blocks.len() {
+        let (id, block) = blocks.at(index);
         let dead = dead_try(blocks, id, &block.terminal.kind);
         note_dead(&mut tries, dead)?;
     }
     Ok(tries)
 }
 
-/// Makes a goto of the terminal at a place, if there is one, with order 0 and the old span.
-fn end_by_goto<B: Blocks>(blocks: &mut B, place: Option<usize>, target: BlockId)
-    requires { IfSome place (λ p. p < length (B.pairs blocks.old)) }
-    ensures { B.pairs blocks.new ≡ changed_at place (ended_by_goto target) (B.pairs blocks.old) }
+/// Makes a goto of the terminal at an index, if there is one, with order 0 and the old span.
+fn end_by_goto<B: Blocks>(blocks: &mut B, index: Option<usize>, target: BlockId)
+    requires { IfSome index (λ p. p < length (B.pairs blocks.old)) }
+    ensures { B.pairs blocks.new ≡ changed_at index (ended_by_goto target) (B.pairs blocks.old) }
 {
-    let Some(place) = place else {
+    let Some(index) = index else {
         return;
     };
-    let mut block = take_block(blocks, place);
+    let mut block = take_block(blocks, index);
     block.terminal = Terminal {
         order: EvaluationOrder(0),
         span: block.terminal.span,
@@ -98,7 +98,7 @@ fn end_by_goto<B: Blocks>(blocks: &mut B, place: Option<usize>, target: BlockId)
             variant: GotoVariant::Break,
         },
     };
-    let _ = blocks.set_at(place, block);
+    let _ = blocks.set_at(index, block);
 }
 
 /// The ids but one, in order. On `OutOfMemory`, an allocation failed.
@@ -113,26 +113,26 @@ fn without_id(alloc: Global, ids: &[BlockId], id: BlockId) -> Result<List<BlockI
     Ok(List::from_vec(rest))
 }
 
-/// Takes an id from the predecessors of the block at a place, if there is one. On `OutOfMemory`, an allocation failed, and nothing
+/// Takes an id from the predecessors of the block at an index, if there is one. On `OutOfMemory`, an allocation failed, and nothing
 /// has changed.
 fn drop_predecessor<B: Blocks>(
     alloc: Global,
     blocks: &mut B,
-    place: Option<usize>,
+    index: Option<usize>,
     id: BlockId,
 ) -> Result<(), OutOfMemory>
-    requires { IfSome place (λ p. p < length (B.pairs blocks.old)) }
-    ensures ok { OnOk result (B.pairs blocks.new ≡ changed_at place (without_predecessor id) (B.pairs blocks.old)) }
+    requires { IfSome index (λ p. p < length (B.pairs blocks.old)) }
+    ensures ok { OnOk result (B.pairs blocks.new ≡ changed_at index (without_predecessor id) (B.pairs blocks.old)) }
     ensures err { OnErr result (B.pairs blocks.new ≡ B.pairs blocks.old) }
 {
-    let Some(place) = place else {
+    let Some(index) = index else {
         return Ok(());
     };
-    let (_, old) = blocks.at(place);
+    let (_, old) = blocks.at(index);
     let preds = without_id(alloc, old.preds.as_slice(), id)?;
-    let mut block = take_block(blocks, place);
+    let mut block = take_block(blocks, index);
     block.preds = preds;
-    let _ = blocks.set_at(place, block);
+    let _ = blocks.set_at(index, block);
     Ok(())
 }
 
@@ -171,22 +171,22 @@ fn note_lost(lost: &mut BlockSet, id: BlockId, is_lost: bool) -> Result<(), OutO
 fn drop_try<B: Blocks>(
     alloc: Global,
     blocks: &mut B,
-    places: &BlockSet,
+    indices: &BlockSet,
     lost: &mut BlockSet,
     dead: DeadTry,
 ) -> Result<(), OutOfMemory>
-    requires places { places.now.keys ≡ keys_of (B.pairs blocks.old) }
+    requires indices { indices.now.keys ≡ keys_of (B.pairs blocks.old) }
     requires distinct { HaveOwnIds (B.pairs blocks.old) }
     ensures kept { OnOk result (kept lost.new.keys (B.pairs blocks.new) ≡ without_try dead (kept lost.old.keys (B.pairs blocks.old))) }
     ensures keys { keys_of (B.pairs blocks.new) ≡ keys_of (B.pairs blocks.old) }
 {
-    end_by_goto(blocks, places.get_index_of(&dead.id), dead.block);
+    end_by_goto(blocks, indices.get_index_of(&dead.id), dead.block);
     let is_lost = has_alone(blocks, dead.fallthrough, dead.handler);
     note_lost(lost, dead.fallthrough, is_lost)?;
     drop_predecessor(
         alloc,
         blocks,
-        places.get_index_of(&dead.fallthrough),
+        indices.get_index_of(&dead.fallthrough),
         dead.handler,
     )?;
     Ok(())
@@ -215,10 +215,10 @@ pub(crate) fn drop_tries<B: Blocks>(
     if tries.is_empty() {
         return Ok(());
     }
-    let places = place_index(alloc, blocks)?;
+    let indices = index_by_id(alloc, blocks)?;
     let mut lost = new_set(alloc);
     for dead in tries {
-        drop_try(alloc, blocks, &places, &mut lost, *dead)?;
+        drop_try(alloc, blocks, &indices, &mut lost, *dead)?;
     }
     remove_lost(blocks, &lost);
     Ok(())

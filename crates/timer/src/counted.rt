@@ -50,11 +50,11 @@ impl Blocks for CountedBlocks {
         self.map.len()
     }
 
-    fn at(&self, place: usize) -> (BlockId, &BasicBlock) {
-        self.map.at(place)
+    fn at(&self, index: usize) -> (BlockId, &BasicBlock) {
+        self.map.at(index)
     }
 
-    fn set_at(&mut self, place: usize, block: BasicBlock) -> BasicBlock {
-        self.map.set_at(place, block)
+    fn set_at(&mut self, index: usize, block: BasicBlock) -> BasicBlock {
+        self.map.set_at(index, block)
     }
 }

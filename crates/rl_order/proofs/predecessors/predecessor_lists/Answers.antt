@@ -15,8 +15,8 @@ loop-edge-preserved g c =
     let index = c.loop-edge.edge-index in
     let zero_edge : Edge = record { from = record { 0 = 0 }; to = record { 0 = 0 } } in
     let e : Edge = get_or c.args.edges.now index zero_edge in
-    let place : c.get_index_of.result ≡ position (same_id e.to) (keys_of graph) = c.get_index_of.ensures.index ∙ ap (λ (k : List BlockId). position (same_id e.to) k) c.in_ok-places.ensures.keys in
+    let found : c.get_index_of.result ≡ position (same_id e.to) (keys_of graph) = c.get_index_of.ensures.index ∙ ap (λ (k : List BlockId). position (same_id e.to) k) c.in_ok-indices.ensures.keys in
     c.in_ok-add_source.ensures
     ∙ ap (λ (l : List (List BlockId)). with_source c.get_index_of.result e.from l) c.loop-edge.invariant
-    ∙ one_more_source graph e (take index c.args.edges.now) c.get_index_of.result c.place_index.ensures.distinct place
+    ∙ one_more_source graph e (take index c.args.edges.now) c.get_index_of.result c.index_by_id.ensures.distinct found
     ∙ ap (λ (t : List Edge). source_lists t graph) (sym (take_more c.args.edges.now index zero_edge c.loop-edge-test.true))

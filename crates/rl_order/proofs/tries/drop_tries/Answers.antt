@@ -19,7 +19,7 @@ loop-dead-init g c =
 
 pub drop_try-requires-clause-distinct : goal.drop_try-requires-clause-distinct
 drop_try-requires-clause-distinct g c =
-    let own : HaveOwnIds (g.B.Blocks.pairs c.loop-dead.blocks) = own_by_keys (g.B.Blocks.pairs c.args.blocks.now) (g.B.Blocks.pairs c.loop-dead.blocks) c.loop-dead.invariant.keys c.place_index.ensures.distinct in
+    let own : HaveOwnIds (g.B.Blocks.pairs c.loop-dead.blocks) = own_by_keys (g.B.Blocks.pairs c.args.blocks.now) (g.B.Blocks.pairs c.loop-dead.blocks) c.loop-dead.invariant.keys c.index_by_id.ensures.distinct in
     own
 
 pub loop-dead-preserved : goal.loop-dead-preserved
