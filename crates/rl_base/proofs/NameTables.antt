@@ -15,7 +15,7 @@ use Rattle.std.proofs.lemmas.Option.{slice_get-get_or, slice_get-map, slice_get_
 use Rattle.rl_base.specs.declared.error.OutOfMemory.{OutOfMemory}
 use Rattle.rl_base.specs.NameTables.{index_from, index_named, item_named}
 use Rattle.rl_base.specs.NameIndex.{IsIndex}
-use Rattle.rl_base.specs.Slots.{slot_at, is_key, numbered, place_of, IsSlotted}
+use Rattle.rl_base.specs.Slots.{slot_at, is_key, numbered, slot_index_of, IsSlotted}
 use Rattle.rl_base.specs.declared.slots.Slot.{Slot}
 use Rattle.rl_base.specs.declared.slots.Slot.TheVariants as slot
 use Rattle.rl_base.proofs.Slotted.{by_test, slot_set_same, push_empty, push_many, crowd, many_same, no_keys, no_slots, empty_slots}
@@ -115,11 +115,11 @@ module _ {X : Type 0} (name_of : X → List ℕ) where
   length_map [] = refl
   length_map (x ∷ items) = ap suc (length_map items)
 
-  place_same : (count : ℕ) (a b : List ℕ) → bytes_eq a b ≡ true → place_of count a ≡ place_of count b
-  place_same count a b is = ap (place_of count) (same_name a b is)
+  slot_index_same : (count : ℕ) (a b : List ℕ) → bytes_eq a b ≡ true → slot_index_of count a ≡ slot_index_of count b
+  slot_index_same count a b is = ap (slot_index_of count) (same_name a b is)
 
   -- The index of a name is that by its slot.
-  pub by_slot : (slots : List Slot) (indices : BTreeMap (String Global) ℕ) (items : List X) (name : List ℕ) (s : Slot) → IsIndex name_of slots indices items → slot_at slots (place_of (length slots) name) ≡ s
+  pub by_slot : (slots : List Slot) (indices : BTreeMap (String Global) ℕ) (items : List X) (name : List ℕ) (s : Slot) → IsIndex name_of slots indices items → slot_at slots (slot_index_of (length slots) name) ≡ s
       → index_named name_of items name ≡ numbered bytes_eq (map name_of items) (get_by_text indices name) s name
   by_slot slots indices items name s index is = index.found name ∙ ap (λ t. numbered bytes_eq (map name_of items) (get_by_text indices name) t name) is
 
@@ -127,33 +127,33 @@ module _ {X : Type 0} (name_of : X → List ℕ) where
   pushed items item new name = index_from-push 0 (length items) items item name (omega arith) new
 
   -- A further item, whose name has an empty slot.
-  pub pushed_empty : (slots after : List Slot) (indices : BTreeMap (String Global) ℕ) (items added : List X) (item : X) (place last : ℕ) → IsIndex name_of slots indices items → place ≡ place_of (length slots) (name_of item) → slot_at slots place ≡ slot.Empty
-      → place < length slots → last ≡ length items → after ≡ slice_set slots place (slot.One last) → added ≡ items ++ item ∷ [] → IsIndex name_of after indices added
-  pushed_empty slots after indices items added item place last index at is within counted set grown =
-      let empty : slot_at slots (place_of (length slots) (name_of item)) ≡ slot.Empty = ap (slot_at slots) (sym at) ∙ is in
+  pub pushed_empty : (slots after : List Slot) (indices : BTreeMap (String Global) ℕ) (items added : List X) (item : X) (slot_index last : ℕ) → IsIndex name_of slots indices items → slot_index ≡ slot_index_of (length slots) (name_of item) → slot_at slots slot_index ≡ slot.Empty
+      → slot_index < length slots → last ≡ length items → after ≡ slice_set slots slot_index (slot.One last) → added ≡ items ++ item ∷ [] → IsIndex name_of after indices added
+  pushed_empty slots after indices items added item slot_index last index at is within counted set grown =
+      let empty : slot_at slots (slot_index_of (length slots) (name_of item)) ≡ slot.Empty = ap (slot_at slots) (sym at) ∙ is in
       let new : index_named name_of items (name_of item) ≡ None = by_slot slots indices items (name_of item) slot.Empty index empty in
-      let count : length after ≡ length slots = ap length set ∙ length-set slots place (slot.One last) in
+      let count : length after ≡ length slots = ap length set ∙ length-set slots slot_index (slot.One last) in
       subst (λ (l : List X). IsIndex name_of after indices l) (sym grown)
-      (subst (λ n. IsSlotted bytes_eq (place_of n) after (map name_of (items ++ item ∷ [])) (get_by_text indices) (index_named name_of (items ++ item ∷ []))) (sym count)
-      (subst (λ ks. IsSlotted bytes_eq (place_of (length slots)) after ks (get_by_text indices) (index_named name_of (items ++ item ∷ []))) (sym (map_push items item))
-      (push_empty bytes_eq (place_of (length slots)) (place_same (length slots)) slots after (map name_of items) (get_by_text indices) (index_named name_of items) (index_named name_of (items ++ item ∷ [])) (name_of item) last index empty
+      (subst (λ n. IsSlotted bytes_eq (slot_index_of n) after (map name_of (items ++ item ∷ [])) (get_by_text indices) (index_named name_of (items ++ item ∷ []))) (sym count)
+      (subst (λ ks. IsSlotted bytes_eq (slot_index_of (length slots)) after ks (get_by_text indices) (index_named name_of (items ++ item ∷ []))) (sym (map_push items item))
+      (push_empty bytes_eq (slot_index_of (length slots)) (slot_index_same (length slots)) slots after (map name_of items) (get_by_text indices) (index_named name_of items) (index_named name_of (items ++ item ∷ [])) (name_of item) last index empty
       (subst (λ p. p < length slots) at within)
       (counted ∙ sym (length_map items))
       (set ∙ ap (λ p. slice_set slots p (slot.One last)) at)
       (λ name. pushed items item new name ∙ ap (λ l. if bytes_eq (name_of item) name then Some l else index_named name_of items name) (sym counted)))))
 
   -- The slot of one name becomes one of many.
-  pub crowded : (slots after : List Slot) (before more : BTreeMap (String Global) ℕ) (items : List X) (place other : ℕ) → IsIndex name_of slots before items → slot_at slots place ≡ slot.One other → place < length slots → after ≡ slice_set slots place slot.Many
+  pub crowded : (slots after : List Slot) (before more : BTreeMap (String Global) ℕ) (items : List X) (slot_index other : ℕ) → IsIndex name_of slots before items → slot_at slots slot_index ≡ slot.One other → slot_index < length slots → after ≡ slice_set slots slot_index slot.Many
       → ((name : List ℕ) → get_by_text more name ≡ (if is_key bytes_eq (slice_get (map name_of items) other) name then Some other else get_by_text before name)) → IsIndex name_of after more items
-  crowded slots after before more items place other index one within set added =
-      let count : length after ≡ length slots = ap length set ∙ length-set slots place slot.Many in
-      let got : slice_get (map name_of items) other ≡ Some (get_or (map name_of items) other []) = slice_get-get_or (map name_of items) other [] (index.within place other one) in
-      subst (λ n. IsSlotted bytes_eq (place_of n) after (map name_of items) (get_by_text more) (index_named name_of items)) (sym count)
-      (crowd bytes_eq (place_of (length slots)) (place_same (length slots)) slots after (map name_of items) (get_by_text before) (get_by_text more) (index_named name_of items) place other (get_or (map name_of items) other []) index one within got set
+  crowded slots after before more items slot_index other index one within set added =
+      let count : length after ≡ length slots = ap length set ∙ length-set slots slot_index slot.Many in
+      let got : slice_get (map name_of items) other ≡ Some (get_or (map name_of items) other []) = slice_get-get_or (map name_of items) other [] (index.within slot_index other one) in
+      subst (λ n. IsSlotted bytes_eq (slot_index_of n) after (map name_of items) (get_by_text more) (index_named name_of items)) (sym count)
+      (crowd bytes_eq (slot_index_of (length slots)) (slot_index_same (length slots)) slots after (map name_of items) (get_by_text before) (get_by_text more) (index_named name_of items) slot_index other (get_or (map name_of items) other []) index one within got set
       (λ name. added name ∙ ap (λ o. if is_key bytes_eq o name then Some other else get_by_text before name) got))
 
-  -- An item that is added among those that share a place, or is not.
-  pub among : (slots : List Slot) (before after : BTreeMap (String Global) ℕ) (items added : List X) (item : X) (r : Result (ℕ × Bool) OutOfMemory) → IsIndex name_of slots before items → slot_at slots (place_of (length slots) (name_of item)) ≡ slot.Many
+  -- An item that is added among those that share a slot, or is not.
+  pub among : (slots : List Slot) (before after : BTreeMap (String Global) ℕ) (items added : List X) (item : X) (r : Result (ℕ × Bool) OutOfMemory) → IsIndex name_of slots before items → slot_at slots (slot_index_of (length slots) (name_of item)) ≡ slot.Many
       → IfOk r (λ found. found.1 ≡ not (is_some (get_by_text before (name_of item))))
       → IfOk r (λ found. added ≡ (if found.1 then items ++ item ∷ [] else items))
       → IfOk r (λ found. found.1 ≡ true → (name : List ℕ) → get_by_text after name ≡ (if bytes_eq (name_of item) name then Some (length items) else get_by_text before name))
@@ -162,14 +162,14 @@ module _ {X : Type 0} (name_of : X → List ℕ) where
   among slots before after items added item (Ok (n, true)) index many is_new grown more stays same unchanged =
       let new : index_named name_of items (name_of item) ≡ None = by_slot slots before items (name_of item) slot.Many index many ∙ none_known (get_by_text before (name_of item)) (sym is_new) in
       subst (λ (l : List X). IsIndex name_of slots after l) (sym grown)
-      (subst (λ ks. IsSlotted bytes_eq (place_of (length slots)) slots ks (get_by_text after) (index_named name_of (items ++ item ∷ []))) (sym (map_push items item))
-      (push_many bytes_eq (place_of (length slots)) (place_same (length slots)) slots (map name_of items) (get_by_text before) (get_by_text after) (index_named name_of items) (index_named name_of (items ++ item ∷ [])) (name_of item) (length items) index many (more refl) (pushed items item new)))
+      (subst (λ ks. IsSlotted bytes_eq (slot_index_of (length slots)) slots ks (get_by_text after) (index_named name_of (items ++ item ∷ []))) (sym (map_push items item))
+      (push_many bytes_eq (slot_index_of (length slots)) (slot_index_same (length slots)) slots (map name_of items) (get_by_text before) (get_by_text after) (index_named name_of items) (index_named name_of (items ++ item ∷ [])) (name_of item) (length items) index many (more refl) (pushed items item new)))
   among slots before after items added item (Ok (n, false)) index many is_new grown more stays same unchanged =
       subst (λ (l : List X). IsIndex name_of slots after l) (sym grown)
-      (many_same bytes_eq (place_of (length slots)) slots (map name_of items) (get_by_text before) (get_by_text after) (index_named name_of items) index (λ name. ap (lookup _) (stays refl)))
+      (many_same bytes_eq (slot_index_of (length slots)) slots (map name_of items) (get_by_text before) (get_by_text after) (index_named name_of items) index (λ name. ap (lookup _) (stays refl)))
   among slots before after items added item (Err e) index many is_new grown more stays same unchanged =
       subst (λ (l : List X). IsIndex name_of slots after l) (sym same)
-      (many_same bytes_eq (place_of (length slots)) slots (map name_of items) (get_by_text before) (get_by_text after) (index_named name_of items) index (λ name. ap (lookup _) unchanged))
+      (many_same bytes_eq (slot_index_of (length slots)) slots (map name_of items) (get_by_text before) (get_by_text after) (index_named name_of items) index (λ name. ap (lookup _) unchanged))
 
   -- The index of an appended item is the last.
   pub pushed_last : (items : List X) (item : X) → index_named name_of items (name_of item) ≡ None → index_named name_of (items ++ item ∷ []) (name_of item) ≡ Some (length items)
@@ -177,8 +177,8 @@ module _ {X : Type 0} (name_of : X → List ℕ) where
       pushed items item new (name_of item)
       ∙ ap (λ (b : Bool). if b then Some (length items) else index_named name_of items (name_of item)) ((bytes_eq-Decides (name_of item) (name_of item)).1 refl)
 
-  -- The index of the item that was added among those that share a place, or was there.
-  pub found_among : (slots : List Slot) (before : BTreeMap (String Global) ℕ) (items added : List X) (item : X) (r : Result (ℕ × Bool) OutOfMemory) → IsIndex name_of slots before items → slot_at slots (place_of (length slots) (name_of item)) ≡ slot.Many
+  -- The index of the item that was added among those that share a slot, or was there.
+  pub found_among : (slots : List Slot) (before : BTreeMap (String Global) ℕ) (items added : List X) (item : X) (r : Result (ℕ × Bool) OutOfMemory) → IsIndex name_of slots before items → slot_at slots (slot_index_of (length slots) (name_of item)) ≡ slot.Many
       → IfOk r (λ found. Some found.0 ≡ (if found.1 then Some (length items) else get_by_text before (name_of item)))
       → IfOk r (λ found. found.1 ≡ not (is_some (get_by_text before (name_of item))))
       → IfOk r (λ found. added ≡ (if found.1 then items ++ item ∷ [] else items))
@@ -195,13 +195,13 @@ module _ {X : Type 0} (name_of : X → List ℕ) where
   found_inside items name (Err e) at = tt
 
   -- The slot that is read is that of the name.
-  pub slot_known : (count place : ℕ) (slots seen : List Slot) (name : List ℕ) (s : Slot) → s ≡ slot_at seen place → seen ≡ slots → place ≡ place_of count name → count ≡ length slots → slot_at slots (place_of (length slots) name) ≡ s
-  slot_known count place slots seen name s is same at counted = sym (is ∙ ap (λ (ss : List Slot). slot_at ss place) same ∙ ap (slot_at slots) (at ∙ ap (λ n. place_of n name) counted))
+  pub slot_known : (count slot_index : ℕ) (slots seen : List Slot) (name : List ℕ) (s : Slot) → s ≡ slot_at seen slot_index → seen ≡ slots → slot_index ≡ slot_index_of count name → count ≡ length slots → slot_at slots (slot_index_of (length slots) name) ≡ s
+  slot_known count slot_index slots seen name s is same at counted = sym (is ∙ ap (λ (ss : List Slot). slot_at ss slot_index) same ∙ ap (slot_at slots) (at ∙ ap (λ n. slot_index_of n name) counted))
 
-  pub slot_crowded : (slots : List Slot) (name : List ℕ) (place : ℕ) → place ≡ place_of (length slots) name → place < length slots → slot_at (slice_set slots place slot.Many) (place_of (length (slice_set slots place slot.Many)) name) ≡ slot.Many
-  slot_crowded slots name place at within =
-      ap (slot_at (slice_set slots place slot.Many)) (ap (λ n. place_of n name) (length-set slots place slot.Many) ∙ sym at)
-      ∙ slot_set_same slots place slot.Many within
+  pub slot_crowded : (slots : List Slot) (name : List ℕ) (slot_index : ℕ) → slot_index ≡ slot_index_of (length slots) name → slot_index < length slots → slot_at (slice_set slots slot_index slot.Many) (slot_index_of (length (slice_set slots slot_index slot.Many)) name) ≡ slot.Many
+  slot_crowded slots name slot_index at within =
+      ap (slot_at (slice_set slots slot_index slot.Many)) (ap (λ n. slot_index_of n name) (length-set slots slot_index slot.Many) ∙ sym at)
+      ∙ slot_set_same slots slot_index slot.Many within
 
   -- An entry of the map by the item's name.
   pub added_item : (before after : BTreeMap (String Global) ℕ) (key : String Global) (k last : ℕ) (item : X) → string_bytes key ≡ name_of item → Updates string_cmp before after key (Some k) → k ≡ last
@@ -221,7 +221,7 @@ module _ {X : Type 0} (name_of : X → List ℕ) where
   empty_by : (slots : List Slot) (indices : BTreeMap (String Global) ℕ) (items : List X) → ((p k : ℕ) → slot_at slots p ≡ slot.One k → false ≡ true) → IsEmpty indices → items ≡ [] → IsIndex name_of slots indices items
   empty_by slots indices items none unknown no_items =
       subst (λ (l : List X). IsIndex name_of slots indices l) (sym no_items)
-      (no_keys bytes_eq (place_of (length slots)) slots (get_by_text indices) (index_named name_of []) none (λ name. ap (lookup _) unknown) (λ name. refl))
+      (no_keys bytes_eq (slot_index_of (length slots)) slots (get_by_text indices) (index_named name_of []) none (λ name. ap (lookup _) unknown) (λ name. refl))
 
   pub none_slotted : (slots : List Slot) (indices : BTreeMap (String Global) ℕ) (items : List X) → slots ≡ [] → IsEmpty indices → items ≡ [] → IsIndex name_of slots indices items
   none_slotted slots indices items is = empty_by slots indices items (subst (λ ss. (p k : ℕ) → slot_at ss p ≡ slot.One k → false ≡ true) (sym is) no_slots)
@@ -261,13 +261,13 @@ text-cloned indices copies zip name =
 pub copied_index : {X : Type 0} (name_of : X → List ℕ) (slots copied : List Slot) (indices copies : BTreeMap (String Global) ℕ) (items others : List X) → copied ≡ slots → IsCopied indices copies → map name_of others ≡ map name_of items
     → IsIndex name_of slots indices items → IsIndex name_of copied copies others
 copied_index name_of slots copied indices copies items others same zip names is =
-    subst (λ (ss : List Slot). IsSlotted bytes_eq (place_of (length ss)) ss (map name_of others) (get_by_text copies) (index_named name_of others)) (sym same)
-    (subst (λ (ns : List (List ℕ)). IsSlotted bytes_eq (place_of (length slots)) slots ns (get_by_text copies) (index_named name_of others)) (sym names) (
+    subst (λ (ss : List Slot). IsSlotted bytes_eq (slot_index_of (length ss)) ss (map name_of others) (get_by_text copies) (index_named name_of others)) (sym same)
+    (subst (λ (ns : List (List ℕ)). IsSlotted bytes_eq (slot_index_of (length slots)) slots ns (get_by_text copies) (index_named name_of others)) (sym names) (
     record {
       found = λ name.
           index_in-names name_of 0 others name ∙ ap (λ ns. index_in 0 ns name) names ∙ sym (index_in-names name_of 0 items name)
           ∙ is.found name
-          ∙ ap (λ m. numbered bytes_eq (map name_of items) m (slot_at slots (place_of (length slots) name)) name) (sym (text-cloned indices copies zip name));
+          ∙ ap (λ m. numbered bytes_eq (map name_of items) m (slot_at slots (slot_index_of (length slots) name)) name) (sym (text-cloned indices copies zip name));
       alone = λ name none. text-cloned indices copies zip name ∙ is.alone name none;
       within = is.within;
       placed = is.placed;

@@ -39,16 +39,16 @@ slot_set_same slots p s within = ap slot_or_many (get_set_same slots p s within)
 slot_set_other : (slots : List Slot) (p q : ℕ) (s : Slot) → (p ≢ q) → slot_at (slice_set slots p s) q ≡ slot_at slots q
 slot_set_other slots p q s other = ap slot_or_many (get_set_other slots p q s other)
 
-by_place : {P : Type 0} (p q : ℕ) → (p ≡ q → P) → ((p ≢ q) → P) → P
-by_place p q same other = by_test (nat_eq p q) (λ is. same (eqb-true p q is)) (λ is. other (eqb-false p q is))
+by_index : {P : Type 0} (p q : ℕ) → (p ≡ q → P) → ((p ≢ q) → P) → P
+by_index p q same other = by_test (nat_eq p q) (λ is. same (eqb-true p q is)) (λ is. other (eqb-false p q is))
 
 one_inj : (a b : ℕ) → slot.One a ≡ slot.One b → a ≡ b
 one_inj a b is = cc
 
-module _ {K : Type 0} (eq : K → K → Bool) (place : K → ℕ) (place_same : (a b : K) → eq a b ≡ true → place a ≡ place b) where
-  -- A key of another place is another key.
-  apart : (x key : K) → (place x ≢ place key) → eq x key ≡ false
-  apart x key other = by_test (eq x key) (λ is. absurd (other (place_same x key is))) (λ is. is)
+module _ {K : Type 0} (eq : K → K → Bool) (slot_index : K → ℕ) (slot_index_same : (a b : K) → eq a b ≡ true → slot_index a ≡ slot_index b) where
+  -- A key of another slot is another key.
+  apart : (x key : K) → (slot_index x ≢ slot_index key) → eq x key ≡ false
+  apart x key other = by_test (eq x key) (λ is. absurd (other (slot_index_same x key is))) (λ is. is)
 
   numbered_push : (keys : List K) (x : K) (many : Option ℕ) (s : Slot) (key : K) → ((k : ℕ) → s ≡ slot.One k → k < length keys) → numbered eq (keys ++ x ∷ []) many s key ≡ numbered eq keys many s key
   numbered_push keys x many slot.Empty key within = refl
@@ -56,10 +56,10 @@ module _ {K : Type 0} (eq : K → K → Bool) (place : K → ℕ) (place_same : 
   numbered_push keys x many slot.Many key within = refl
 
   -- A further key at an empty slot.
-  pub push_empty : (slots after : List Slot) (keys : List K) (many number more : K → Option ℕ) (x : K) (last : ℕ) → IsSlotted eq place slots keys many number → slot_at slots (place x) ≡ slot.Empty → place x < length slots → last ≡ length keys
-      → after ≡ slice_set slots (place x) (slot.One last) → ((key : K) → more key ≡ (if eq x key then Some last else number key)) → IsSlotted eq place after (keys ++ x ∷ []) many more
+  pub push_empty : (slots after : List Slot) (keys : List K) (many number more : K → Option ℕ) (x : K) (last : ℕ) → IsSlotted eq slot_index slots keys many number → slot_at slots (slot_index x) ≡ slot.Empty → slot_index x < length slots → last ≡ length keys
+      → after ≡ slice_set slots (slot_index x) (slot.One last) → ((key : K) → more key ≡ (if eq x key then Some last else number key)) → IsSlotted eq slot_index after (keys ++ x ∷ []) many more
   push_empty slots after keys many number more x last is empty inside counted set grown = record {
-    found = λ key. by_place (place x) (place key)
+    found = λ key. by_index (slot_index x) (slot_index key)
         (λ same. grown key
         ∙ ap (λ o. if eq x key then Some last else o) (is.found key ∙ ap (λ s. numbered eq keys (many key) s key) (ap (slot_at slots) (sym same) ∙ empty))
         ∙ sym (ap (λ o. if is_key eq o key then Some last else None) (ap (slice_get (keys ++ x ∷ [])) counted ∙ get_push_new keys x))
@@ -67,100 +67,100 @@ module _ {K : Type 0} (eq : K → K → Bool) (place : K → ℕ) (place_same : 
         (λ other. grown key
         ∙ ap (λ (b : Bool). if b then Some last else number key) (apart x key other)
         ∙ is.found key
-        ∙ sym (numbered_push keys x (many key) (slot_at slots (place key)) key (λ k one. is.within (place key) k one))
-        ∙ sym (ap (λ s. numbered eq (keys ++ x ∷ []) (many key) s key) (there (place key) other)));
-    alone = λ key none. by_place (place x) (place key)
+        ∙ sym (numbered_push keys x (many key) (slot_at slots (slot_index key)) key (λ k one. is.within (slot_index key) k one))
+        ∙ sym (ap (λ s. numbered eq (keys ++ x ∷ []) (many key) s key) (there (slot_index key) other)));
+    alone = λ key none. by_index (slot_index x) (slot_index key)
         (λ same. is.alone key (ap is_many (ap (slot_at slots) (sym same) ∙ empty)))
-        (λ other. is.alone key (sym (ap is_many (there (place key) other)) ∙ none));
-    within = λ p k one. by_place (place x) p
-        (λ same. let at : last ≡ k = one_inj last k (sym (at_place p same) ∙ one) in let grew : length (keys ++ x ∷ []) ≡ length keys + 1 = length_push keys x in omega (arith, at, counted, grew))
+        (λ other. is.alone key (sym (ap is_many (there (slot_index key) other)) ∙ none));
+    within = λ p k one. by_index (slot_index x) p
+        (λ same. let at : last ≡ k = one_inj last k (sym (at_index p same) ∙ one) in let grew : length (keys ++ x ∷ []) ≡ length keys + 1 = length_push keys x in omega (arith, at, counted, grew))
         (λ other. let before : k < length keys = is.within p k (sym (there p other) ∙ one) in let grew : length (keys ++ x ∷ []) ≡ length keys + 1 = length_push keys x in omega (arith, before, grew));
-    placed = λ p k key one got. by_place (place x) p
-        (λ same. let at : k ≡ length keys = sym (one_inj last k (sym (at_place p same) ∙ one)) ∙ counted in
+    placed = λ p k key one got. by_index (slot_index x) p
+        (λ same. let at : k ≡ length keys = sym (one_inj last k (sym (at_index p same) ∙ one)) ∙ counted in
         let e : Some x ≡ Some key = sym (ap (slice_get (keys ++ x ∷ [])) at ∙ get_push_new keys x) ∙ got in
-        let named : x ≡ key = cc in sym (ap place named) ∙ same)
+        let named : x ≡ key = cc in sym (ap slot_index named) ∙ same)
         (λ other. is.placed p k key (sym (there p other) ∙ one) (sym (get_push_old keys x k (is.within p k (sym (there p other) ∙ one))) ∙ got));
   }
     where
-      at_place : (p : ℕ) → place x ≡ p → slot_at after p ≡ slot.One last
-      at_place p same = ap (slot_at after) (sym same) ∙ ap (λ ss. slot_at ss (place x)) set ∙ slot_set_same slots (place x) (slot.One last) inside
+      at_index : (p : ℕ) → slot_index x ≡ p → slot_at after p ≡ slot.One last
+      at_index p same = ap (slot_at after) (sym same) ∙ ap (λ ss. slot_at ss (slot_index x)) set ∙ slot_set_same slots (slot_index x) (slot.One last) inside
 
-      here : (key : K) → place x ≡ place key → slot_at after (place key) ≡ slot.One last
-      here key same = at_place (place key) same
+      here : (key : K) → slot_index x ≡ slot_index key → slot_at after (slot_index key) ≡ slot.One last
+      here key same = at_index (slot_index key) same
 
-      there : (p : ℕ) → (place x ≢ p) → slot_at after p ≡ slot_at slots p
-      there p other = ap (λ ss. slot_at ss p) set ∙ slot_set_other slots (place x) p (slot.One last) other
+      there : (p : ℕ) → (slot_index x ≢ p) → slot_at after p ≡ slot_at slots p
+      there p other = ap (λ ss. slot_at ss p) set ∙ slot_set_other slots (slot_index x) p (slot.One last) other
 
   -- A further key at a slot of many.
-  pub push_many : (slots : List Slot) (keys : List K) (many many_more number more : K → Option ℕ) (x : K) (last : ℕ) → IsSlotted eq place slots keys many number → slot_at slots (place x) ≡ slot.Many
-      → ((key : K) → many_more key ≡ (if eq x key then Some last else many key)) → ((key : K) → more key ≡ (if eq x key then Some last else number key)) → IsSlotted eq place slots (keys ++ x ∷ []) many_more more
+  pub push_many : (slots : List Slot) (keys : List K) (many many_more number more : K → Option ℕ) (x : K) (last : ℕ) → IsSlotted eq slot_index slots keys many number → slot_at slots (slot_index x) ≡ slot.Many
+      → ((key : K) → many_more key ≡ (if eq x key then Some last else many key)) → ((key : K) → more key ≡ (if eq x key then Some last else number key)) → IsSlotted eq slot_index slots (keys ++ x ∷ []) many_more more
   push_many slots keys many many_more number more x last is full added grown = record {
     found = λ key. by_test (eq x key)
         (λ one. grown key
         ∙ ap (λ (b : Bool). if b then Some last else number key) one
         ∙ sym (ap (λ (b : Bool). if b then Some last else many key) one)
         ∙ sym (added key)
-        ∙ sym (ap (λ s. numbered eq (keys ++ x ∷ []) (many_more key) s key) (ap (slot_at slots) (sym (place_same x key one)) ∙ full)))
+        ∙ sym (ap (λ s. numbered eq (keys ++ x ∷ []) (many_more key) s key) (ap (slot_at slots) (sym (slot_index_same x key one)) ∙ full)))
         (λ other. grown key
         ∙ ap (λ (b : Bool). if b then Some last else number key) other
         ∙ is.found key
-        ∙ sym (numbered_push keys x (many key) (slot_at slots (place key)) key (λ k one. is.within (place key) k one))
-        ∙ sym (ap (λ m. numbered eq (keys ++ x ∷ []) m (slot_at slots (place key)) key) (added key ∙ ap (λ (b : Bool). if b then Some last else many key) other)));
+        ∙ sym (numbered_push keys x (many key) (slot_at slots (slot_index key)) key (λ k one. is.within (slot_index key) k one))
+        ∙ sym (ap (λ m. numbered eq (keys ++ x ∷ []) m (slot_at slots (slot_index key)) key) (added key ∙ ap (λ (b : Bool). if b then Some last else many key) other)));
     alone = λ key none. by_test (eq x key)
-        (λ one. absurd (true≢false (sym (ap is_many (ap (slot_at slots) (sym (place_same x key one)) ∙ full)) ∙ none)))
+        (λ one. absurd (true≢false (sym (ap is_many (ap (slot_at slots) (sym (slot_index_same x key one)) ∙ full)) ∙ none)))
         (λ other. added key ∙ ap (λ (b : Bool). if b then Some last else many key) other ∙ is.alone key none);
     within = λ p k one. let before : k < length keys = is.within p k one in let grew : length (keys ++ x ∷ []) ≡ length keys + 1 = length_push keys x in omega (arith, before, grew);
     placed = λ p k key one got. is.placed p k key one (sym (get_push_old keys x k (is.within p k one)) ∙ got);
   }
 
   -- The slot of one key becomes one of many.
-  pub crowd : (slots after : List Slot) (keys : List K) (many many_more number : K → Option ℕ) (p k : ℕ) (y : K) → IsSlotted eq place slots keys many number → slot_at slots p ≡ slot.One k → p < length slots → slice_get keys k ≡ Some y
-      → after ≡ slice_set slots p slot.Many → ((key : K) → many_more key ≡ (if eq y key then Some k else many key)) → IsSlotted eq place after keys many_more number
+  pub crowd : (slots after : List Slot) (keys : List K) (many many_more number : K → Option ℕ) (p k : ℕ) (y : K) → IsSlotted eq slot_index slots keys many number → slot_at slots p ≡ slot.One k → p < length slots → slice_get keys k ≡ Some y
+      → after ≡ slice_set slots p slot.Many → ((key : K) → many_more key ≡ (if eq y key then Some k else many key)) → IsSlotted eq slot_index after keys many_more number
   crowd slots after keys many many_more number p k y is one inside got set added = record {
-    found = λ key. by_place p (place key)
+    found = λ key. by_index p (slot_index key)
         (λ same. is.found key
         ∙ ap (λ s. numbered eq keys (many key) s key) (ap (slot_at slots) (sym same) ∙ one)
         ∙ ap (λ o. if is_key eq o key then Some k else None) got
         ∙ sym (ap (λ o. if eq y key then Some k else o) (is.alone key (ap is_many (ap (slot_at slots) (sym same) ∙ one))))
         ∙ sym (added key)
-        ∙ sym (ap (λ s. numbered eq keys (many_more key) s key) (at_place (place key) same)))
+        ∙ sym (ap (λ s. numbered eq keys (many_more key) s key) (at_index (slot_index key) same)))
         (λ other. is.found key
-        ∙ sym (ap (λ m. numbered eq keys m (slot_at slots (place key)) key) (unnamed key other))
-        ∙ sym (ap (λ s. numbered eq keys (many_more key) s key) (there (place key) other)));
-    alone = λ key none. by_place p (place key)
-        (λ same. absurd (true≢false (sym (ap is_many (at_place (place key) same)) ∙ none)))
-        (λ other. unnamed key other ∙ is.alone key (sym (ap is_many (there (place key) other)) ∙ none));
-    within = λ q j at. by_place p q
-        (λ same. absurd (let e : slot.Many ≡ slot.One j = sym (at_place q same) ∙ at in cc))
+        ∙ sym (ap (λ m. numbered eq keys m (slot_at slots (slot_index key)) key) (unnamed key other))
+        ∙ sym (ap (λ s. numbered eq keys (many_more key) s key) (there (slot_index key) other)));
+    alone = λ key none. by_index p (slot_index key)
+        (λ same. absurd (true≢false (sym (ap is_many (at_index (slot_index key) same)) ∙ none)))
+        (λ other. unnamed key other ∙ is.alone key (sym (ap is_many (there (slot_index key) other)) ∙ none));
+    within = λ q j at. by_index p q
+        (λ same. absurd (let e : slot.Many ≡ slot.One j = sym (at_index q same) ∙ at in cc))
         (λ other. is.within q j (sym (there q other) ∙ at));
-    placed = λ q j key at has. by_place p q
-        (λ same. absurd (let e : slot.Many ≡ slot.One j = sym (at_place q same) ∙ at in cc))
+    placed = λ q j key at has. by_index p q
+        (λ same. absurd (let e : slot.Many ≡ slot.One j = sym (at_index q same) ∙ at in cc))
         (λ other. is.placed q j key (sym (there q other) ∙ at) has);
   }
     where
-      at_place : (q : ℕ) → p ≡ q → slot_at after q ≡ slot.Many
-      at_place q same = ap (slot_at after) (sym same) ∙ ap (λ ss. slot_at ss p) set ∙ slot_set_same slots p slot.Many inside
+      at_index : (q : ℕ) → p ≡ q → slot_at after q ≡ slot.Many
+      at_index q same = ap (slot_at after) (sym same) ∙ ap (λ ss. slot_at ss p) set ∙ slot_set_same slots p slot.Many inside
 
       there : (q : ℕ) → (p ≢ q) → slot_at after q ≡ slot_at slots q
       there q other = ap (λ ss. slot_at ss q) set ∙ slot_set_other slots p q slot.Many other
 
-      unnamed : (key : K) → (p ≢ place key) → many_more key ≡ many key
+      unnamed : (key : K) → (p ≢ slot_index key) → many_more key ≡ many key
       unnamed key other = added key ∙ ap (λ (b : Bool). if b then Some k else many key) (apart y key (λ same. other (sym (is.placed p k y one got) ∙ same)))
 
--- A map that says as much of the keys that share a place may stand for the other.
-pub many_same : {K : Type 0} (eq : K → K → Bool) (place : K → ℕ) (slots : List Slot) (keys : List K) (many other number : K → Option ℕ) → IsSlotted eq place slots keys many number → ((key : K) → other key ≡ many key) → IsSlotted eq place slots keys other number
-many_same eq place slots keys many other number is same = record {
-  found = λ key. is.found key ∙ sym (ap (λ m. numbered eq keys m (slot_at slots (place key)) key) (same key));
+-- A map that says as much of the keys that share a slot may stand for the other.
+pub many_same : {K : Type 0} (eq : K → K → Bool) (slot_index : K → ℕ) (slots : List Slot) (keys : List K) (many other number : K → Option ℕ) → IsSlotted eq slot_index slots keys many number → ((key : K) → other key ≡ many key) → IsSlotted eq slot_index slots keys other number
+many_same eq slot_index slots keys many other number is same = record {
+  found = λ key. is.found key ∙ sym (ap (λ m. numbered eq keys m (slot_at slots (slot_index key)) key) (same key));
   alone = λ key none. same key ∙ is.alone key none;
   within = is.within;
   placed = is.placed;
 }
 
 -- Without keys, if no slot has one.
-pub no_keys : {K : Type 0} (eq : K → K → Bool) (place : K → ℕ) (slots : List Slot) (many number : K → Option ℕ) → ((p k : ℕ) → slot_at slots p ≡ slot.One k → false ≡ true) → ((key : K) → many key ≡ None) → ((key : K) → number key ≡ None)
-    → IsSlotted eq place slots [] many number
-no_keys eq place slots many number none unknown numberless = record {
-  found = λ key. numberless key ∙ sym (nothing (slot_at slots (place key)) (many key) key (none (place key)) (unknown key));
+pub no_keys : {K : Type 0} (eq : K → K → Bool) (slot_index : K → ℕ) (slots : List Slot) (many number : K → Option ℕ) → ((p k : ℕ) → slot_at slots p ≡ slot.One k → false ≡ true) → ((key : K) → many key ≡ None) → ((key : K) → number key ≡ None)
+    → IsSlotted eq slot_index slots [] many number
+no_keys eq slot_index slots many number none unknown numberless = record {
+  found = λ key. numberless key ∙ sym (nothing (slot_at slots (slot_index key)) (many key) key (none (slot_index key)) (unknown key));
   alone = λ key one. unknown key;
   within = λ p k one. absurd (let e : false ≡ true = none p k one in true≢false (sym e));
   placed = λ p k key one got. absurd (let e : false ≡ true = none p k one in true≢false (sym e));

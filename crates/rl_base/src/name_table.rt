@@ -9,7 +9,7 @@ ghost use Rattle.rl_base.specs.NameTables.{index_named, item_named};
 ghost use Rattle.rl_base.specs.Slots.{is_key};
 
 use crate::error::OutOfMemory;
-use crate::slots::{Slot, empty_slots, place_of, slot_at};
+use crate::slots::{Slot, empty_slots, slot_index_of, slot_at};
 use std::alloc::Global;
 use std::collections::BTreeMap;
 use std::collections::btree_map::Entry;
@@ -31,9 +31,9 @@ pub trait Named: Drop {
 #[derive(Drop)]
 pub struct NameTable<T: Named> {
     items: Vec<T>,
-    /// For each place, the names that have it: none, one by its index, or many.
+    /// For each slot, the names that have it: none, one by its index, or many.
     slots: Vec<Slot>,
-    /// The indices of the names that share a place.
+    /// The indices of the names that share a slot.
     indices: BTreeMap<String, usize>,
 }
 
@@ -110,7 +110,7 @@ impl<T: Named> NameTable<T> {
         ensures found { result ≡ index_named T.name self.now name.now }
         ensures within { IfSome result (λ index. index < length self.now) }
     {
-        match slot_at(self.slots.as_slice(), place_of(self.slots.len(), name)) {
+        match slot_at(self.slots.as_slice(), slot_index_of(self.slots.len(), name)) {
             Slot::Empty => None,
             Slot::One(index) => {
                 if is_named(self.items.as_slice(), index, name) {
@@ -155,12 +155,12 @@ impl<T: Named> NameTable<T> {
         ensures last { IfOk result (λ found. found.1 ≡ true → found.0 ≡ length self.old) }
         ensures err { OnErr result (self.new ≡ self.old) }
     {
-        let place = place_of(self.slots.len(), item.name());
-        match slot_at(self.slots.as_slice(), place) {
+        let slot_index = slot_index_of(self.slots.len(), item.name());
+        match slot_at(self.slots.as_slice(), slot_index) {
             Slot::Empty => {
                 let index = self.items.len();
                 self.items.push(item)?;
-                self.slots[place] = Slot::One(index);
+                self.slots[slot_index] = Slot::One(index);
                 Ok((index, true))
             }
             Slot::One(other) => {
@@ -168,7 +168,7 @@ impl<T: Named> NameTable<T> {
                     return Ok((other, false));
                 }
                 add_other(alloc, self.items.as_slice(), &mut self.indices, other)?;
-                self.slots[place] = Slot::Many;
+                self.slots[slot_index] = Slot::Many;
                 insert_among(alloc, &mut self.items, &mut self.indices, item)
             }
             Slot::Many => insert_among(alloc, &mut self.items, &mut self.indices, item),

@@ -1,14 +1,14 @@
-//! Slots of keys. Each key has a place among them, and the slot there says if it is the only one. Most look-ups are one comparison
-//! then; keys that share a place, also those that are made to, are left to an ordered map.
+//! Slots of keys. Each key has one of them, by its hash, and the slot says if the key is the only one that has it. Most look-ups are
+//! one comparison then; keys that share a slot, also those that are made to, are left to an ordered map.
 
 ghost use Rattle.std.specs.Prelude.{◌≡◌, ◌<◌, false, length, replicate, IfOk};
 ghost use Rattle.rl_base.specs.declared.slots.Slot.TheVariants as Slot;
-ghost use Rattle.rl_base.specs.Slots.{hash_from, place_of, is_many, slot_at};
+ghost use Rattle.rl_base.specs.Slots.{hash_from, slot_index_of, is_many, slot_at};
 
 use crate::error::OutOfMemory;
 use std::alloc::Global;
 
-/// The keys with one place: none, one, or many.
+/// The keys that have a slot: none, one, or many.
 #[derive(Clone, Copy)]
 pub enum Slot {
     /// There is no key.
@@ -35,9 +35,9 @@ fn hash_of(text: &str) -> u64
     hash
 }
 
-/// The place of a text among `count` slots. 0 if there are none.
-pub fn place_of(count: usize, text: &str) -> usize
-    ensures { result ≡ place_of count text.now }
+/// The index of the slot that a text has among `count` slots. 0 if there are none.
+pub fn slot_index_of(count: usize, text: &str) -> usize
+    ensures { result ≡ slot_index_of count text.now }
 {
     if count == 0 {
         return 0;
@@ -45,12 +45,12 @@ pub fn place_of(count: usize, text: &str) -> usize
     (hash_of(text) % count as u64) as usize
 }
 
-/// The slot at a place. A place past the end is one of many keys.
-pub fn slot_at(slots: &[Slot], place: usize) -> Slot
-    ensures slot { result ≡ slot_at slots.now place }
-    ensures within { is_many result ≡ false → place < length slots.now }
+/// The slot at an index. An index past the end gives a slot of many keys.
+pub fn slot_at(slots: &[Slot], index: usize) -> Slot
+    ensures slot { result ≡ slot_at slots.now index }
+    ensures within { is_many result ≡ false → index < length slots.now }
 {
-    match slots.get(place) {
+    match slots.get(index) {
         Some(slot) => *slot,
         None => Slot::Many,
     }

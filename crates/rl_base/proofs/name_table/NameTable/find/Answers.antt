@@ -8,7 +8,7 @@ pub returns-in-Many-clause-within : goal.returns-in-Many-clause-within
 returns-in-Many-clause-within g c =
     let inside = c.self.inside in
     let name = c.args.name.now in
-    let many = slot_known g.T.Named.name c.len.result c.place_of.result inside.slots.items c.as_slice.result.now name slot.Many c.in-Many.ensures.slot c.as_slice.ensures.value c.place_of.ensures (c.len.ensures ∙ inside.slots.ok.0) in
+    let many = slot_known g.T.Named.name c.len.result c.slot_index_of.result inside.slots.items c.as_slice.result.now name slot.Many c.in-Many.ensures.slot c.as_slice.ensures.value c.slot_index_of.ensures (c.len.ensures ∙ inside.slots.ok.0) in
     found-within g.T.Named.name c.copied.result c.args.self.now name
     (c.copied.ensures ∙ c.get.ensures.value
     ∙ sym (by_slot g.T.Named.name inside.slots.items inside.indices inside.items.items name slot.Many c.self.invariant many)
