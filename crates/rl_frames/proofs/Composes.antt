@@ -1,9 +1,8 @@
 -- The frames' clauses: what each makes of the runs of its holes.
 use Rattle.std.proofs.Common.{◌≡◌, ℕ, ◌+◌, List, length, Some, sym, ap, ◌∙◌, subst}
-use Rattle.rl_base.specs.declared.ids.BlockId.{BlockId}
-use Rattle.rl_base.specs.declared.span.Span.{Span}
-use Rattle.rl_builder.specs.Builder.{State, completed_by, pushed, with_handler, with_scope}
+use Rattle.rl_builder.specs.Builder.{completed_by, pushed, with_handler, with_scope}
 use Rattle.rl_builder.specs.declared.jumps.JumpScope.{JumpScope}
+use Rattle.rl_frames.proofs.Common.{BlockId, Place, Span, State}
 use Rattle.rl_frames.proofs.ForBlocks.{for_blocks, for_blocks_plain}
 use Rattle.rl_frames.proofs.ForRuns.{for_runs, for_runs_plain}
 use Rattle.rl_frames.proofs.Ifs.{if_runs, if_then_runs}
@@ -25,7 +24,6 @@ use Rattle.rl_frames.specs.Frames.{sequence_at, sequence_ended, ternary_after, t
 use Rattle.rl_frames.specs.Meanings.{chosen, connected, do_looped, for_looped, looped, selected}
 use Rattle.rl_frames.specs.Frames.{try_after, try_at, try_ended}
 use Rattle.rl_frames.specs.Parts.{for_finished, if_finished, loads, try_end, while_finished}
-use Rattle.rl_hir.specs.declared.instruction.Place.{Place}
 use Rattle.rl_hir.specs.declared.terminal.GotoVariant.TheVariants as gotos
 use Rattle.rl_hir.specs.declared.terminal.Terminal.{Terminal}
 use Rattle.rl_hir.specs.declared.terminal.TerminalKind.TheVariants as kinds

@@ -1,19 +1,16 @@
 -- The blocks of a `for`-`in` loop.
 use Rattle.std.proofs.Common.{◌≡◌, ℕ, ◌+◌, ◌<◌, ◌≤◌, inl, inr, false, [], ◌∷◌, Some, refl, subst, arith}
-use Rattle.rl_base.specs.declared.span.Span.{Span}
-use Rattle.rl_builder.specs.Builder.{State, with_temporary}
+use Rattle.rl_builder.specs.Builder.{with_temporary}
 use Rattle.rl_builder.specs.Temporaries.{temporary, unordered}
+use Rattle.rl_frames.proofs.Common.{Code, IsContainedIn, Label, Place, Span, State}
 use Rattle.rl_frames.proofs.RoundBlocks.{IsHead, IsOpened, rounds_opened, rounds_preserves}
 use Rattle.rl_frames.specs.Parts.{forin_begun, forin_end, forin_init, forin_next, rounds_body, rounds_finished}
 use Rattle.rl_hir.specs.Blocks.{same_id}
 use Rattle.rl_hir.specs.declared.instruction.Instruction.{Instruction}
 use Rattle.rl_hir.specs.declared.instruction.InstructionValue.TheVariants as values
-use Rattle.rl_hir.specs.declared.instruction.Place.{Place}
 use Rattle.rl_machine.proofs.Silence.{settles_runs}
 use Rattle.rl_machine.specs.Ends.{Enumerates, leaving}
-use Rattle.rl_machine.specs.Machine.{Code}
 use Rattle.rl_machine.specs.Silence.{LeavesStraight, Settles}
-use Rattle.rl_model.specs.Actions.{Label}
 use Rattle.rl_order.proofs.Ordering.{or_left, same_self}
 use Rattle.rl_runs.proofs.BlockIds.{free_then, ids_then}
 use Rattle.rl_runs.proofs.Moves.{contained_before, instruction_met}
@@ -22,7 +19,7 @@ use Rattle.rl_runs.proofs.Passing.{passes_pushed, passes_then}
 use Rattle.rl_runs.proofs.Preserving.{blocks_then, blocks_value}
 use Rattle.rl_runs.proofs.Used.{below_or}
 use Rattle.rl_runs.specs.Blocks.{IsNameSince, NamesBlock, Passes, PreservesBlocks}
-use Rattle.rl_runs.specs.Facts.{IsContainedIn, IsCurrentOrCompleted}
+use Rattle.rl_runs.specs.Facts.{IsCurrentOrCompleted}
 use Rattle.rl_runs.specs.Moves.{block_id}
 
 module _ (s s2 s3 s5 : State) (label : Label) (collection test : Place) (span left part : Span)

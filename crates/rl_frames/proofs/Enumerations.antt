@@ -1,28 +1,27 @@
 -- The runs of a `for`-`in` loop.
 use Rattle.std.proofs.Common.{◌≡◌, ℕ, suc, ◌+◌, ◌<◌, ◌≤◌, inl, inr, List, [], ◌∷◌, length, Some, refl, ap, ◌∙◌, arith}
-use Rattle.rl_base.specs.declared.span.Span.{Span}
-use Rattle.rl_builder.specs.Builder.{State, innermost, new_block}
+use Rattle.rl_builder.specs.Builder.{innermost, new_block}
+use Rattle.rl_frames.proofs.Common.{Code, Extends, IsContainedIn, Label, Place, Span, State}
 use Rattle.rl_frames.proofs.RoundRuns.{IsKept, OfPoints, round_body_part, round_head_part, rounds_again}
 use Rattle.rl_frames.proofs.RoundStates.{IsRoundsIn, body_extends, init_extends, last_extends, right_extends, rounds_in}
 use Rattle.rl_frames.specs.Meanings.{enumerated, front_ways, rounds}
 use Rattle.rl_frames.specs.Parts.{forin_begun, forin_end, forin_init, forin_next, rounds_body, rounds_finished}
 use Rattle.rl_hir.specs.declared.function.BlockKind.TheVariants as block
 use Rattle.rl_hir.specs.declared.instruction.InstructionValue.TheVariants as values
-use Rattle.rl_hir.specs.declared.instruction.Place.{Place}
 use Rattle.rl_machine.specs.Acts.{Steps}
 use Rattle.rl_machine.specs.declared.trace.Answer.{Answer}
 use Rattle.rl_machine.specs.declared.trace.Value.{Value}
 use Rattle.rl_machine.specs.Ends.{Enumerates, Note, Notes, noted}
-use Rattle.rl_machine.specs.Machine.{Code, choice_at, exit_at}
+use Rattle.rl_machine.specs.Machine.{choice_at, exit_at}
 use Rattle.rl_machine.specs.Traces.{Cont, Store, World}
-use Rattle.rl_model.specs.Actions.{Action, Label, Ways}
+use Rattle.rl_model.specs.Actions.{Action, Ways}
 use Rattle.rl_model.specs.Events.{next_key}
 use Rattle.rl_runs.proofs.Holes.{same_throws, use_expression}
 use Rattle.rl_runs.proofs.Moves.{contained_before, extends_then, extends_value, goes_on, inside, value_free, value_made}
 use Rattle.rl_runs.proofs.Steps.{noted_other, noted_same, set_other, since_noted, since_set, since_start, since_then}
 use Rattle.rl_runs.specs.Continuations.{Agrees, Follows, Inside, IsOutside, Jumps, Range, SharesVariables, Since, Throws, TracesAt}
 use Rattle.rl_runs.specs.Continuations.{TracesFrom, between}
-use Rattle.rl_runs.specs.Facts.{Extends, HasSoundNames, IsContainedIn, Nobody}
+use Rattle.rl_runs.specs.Facts.{HasSoundNames, Nobody}
 use Rattle.rl_runs.specs.Moves.{block_id}
 use Rattle.rl_runs.specs.Simulation.{RunsExpression, RunsPattern, RunsStatement}
 

@@ -1,32 +1,28 @@
 -- The blocks of a `for` loop, from those of the holes in front of its body, of its body and of its test.
 use Rattle.std.proofs.Common.{◌≡◌, ℕ, ◌+◌, ◌-◌, ◌<◌, ◌≤◌, inl, inr, ◌++◌, true, List, [], ◌∷◌, length, take, Option, Some, None, refl}
 use Rattle.std.proofs.Common.{sym, ap, ◌∙◌, subst, arith}
-use Rattle.rl_base.specs.declared.ids.BlockId.{BlockId}
-use Rattle.rl_base.specs.declared.span.Span.{Span}
-use Rattle.rl_builder.specs.Builder.{State, ended_by, new_block, reserved}
+use Rattle.rl_builder.specs.Builder.{ended_by, new_block, reserved}
 use Rattle.rl_builder.specs.declared.jumps.JumpScope.{JumpScope}
+use Rattle.rl_frames.proofs.Common.{BlockId, Code, IsContainedIn, IsLedTo, Label, Place, Span, State}
 use Rattle.rl_frames.proofs.ForFronts.{FrontSettles, IsFront, init_comes, init_front, update_front}
 use Rattle.rl_frames.proofs.ForStates.{IsForIn, for_body_extends, for_branch, for_extends, for_front, for_in, for_into}
 use Rattle.rl_frames.proofs.ForStates.{for_led_behind, for_led_body, for_notes, for_numbered, for_scopes_left, for_shut_at, for_tests}
 use Rattle.rl_frames.proofs.ForStates.{update_extends}
 use Rattle.rl_frames.specs.Parts.{for_begun, for_body, for_end, for_finished, for_scope, for_update}
 use Rattle.rl_hir.specs.declared.function.BlockKind.TheVariants as block
-use Rattle.rl_hir.specs.declared.instruction.Place.{Place}
 use Rattle.rl_hir.specs.declared.terminal.GotoVariant.TheVariants as gotos
 use Rattle.rl_machine.proofs.Silence.{settles_goes, settles_reads}
 use Rattle.rl_machine.specs.Ends.{Straight, Truthy, leaving}
-use Rattle.rl_machine.specs.Machine.{Code}
 use Rattle.rl_machine.specs.Prunes.{Each}
 use Rattle.rl_machine.specs.Silence.{IsNotedStraight, LeavesStraight, Settles}
-use Rattle.rl_model.specs.Actions.{Label}
 use Rattle.rl_runs.proofs.BlockIds.{IsFree, free_aside, free_ended, free_fresh, free_then, ids_aside, ids_counted, ids_ended, ids_then}
 use Rattle.rl_runs.proofs.Moves.{contained_before, terminal_met}
 use Rattle.rl_runs.proofs.Naming.{named_ended, named_first, named_goto, named_more, named_then, named_three, scope_targets}
 use Rattle.rl_runs.proofs.Points.{empty_settles, scope_jumps_settle, settle_aside, settle_completed, settle_goto}
 use Rattle.rl_runs.proofs.Used.{below_or, ended_there, ends_more, looped_ended, notes_back, straight_below, straight_ended, straight_then}
-use Rattle.rl_runs.specs.Blocks.{AreUsed, IsLedTo, IsNameSince, IsTarget, JumpsSettle, Looping, NamesBlock, NamesSince, Passes}
+use Rattle.rl_runs.specs.Blocks.{AreUsed, IsNameSince, IsTarget, JumpsSettle, Looping, NamesBlock, NamesSince, Passes}
 use Rattle.rl_runs.specs.Blocks.{PointsSettle, PreservesBlocks, PreservesIds, Settling, StraightBelow, StraightSince, UniqueIds}
-use Rattle.rl_runs.specs.Facts.{IsCompleted, IsContainedIn, IsCurrentOrCompleted}
+use Rattle.rl_runs.specs.Facts.{IsCompleted, IsCurrentOrCompleted}
 use Rattle.rl_runs.specs.Moves.{block_id, goto, without_scope}
 
 module _ (s y s4 s5 : State) (label : Label) (again : BlockId) (update : Option BlockId) (test : Place) (span part last : Span) where

@@ -1,14 +1,13 @@
 -- The holes in front of the body of a `for` loop, those of its init and of its update: all that they preserve.
 use Rattle.std.proofs.Common.{◌≡◌, ℕ, zero, suc, ◌+◌, ◌<◌, ◌≤◌, inl, inr, false, List, length, refl, sym, subst, arith}
-use Rattle.rl_base.specs.declared.span.Span.{Span}
-use Rattle.rl_builder.specs.Builder.{State, ended_by, new_block, reserved}
+use Rattle.rl_builder.specs.Builder.{ended_by, new_block, reserved}
 use Rattle.rl_builder.specs.declared.jumps.JumpScope.{JumpScope}
+use Rattle.rl_frames.proofs.Common.{Code, Extends, IsContainedIn, IsLedTo, Span, State}
 use Rattle.rl_frames.proofs.ForStates.{for_front, for_numbered, init_extends, update_extends}
 use Rattle.rl_frames.specs.Parts.{for_begun, for_update}
 use Rattle.rl_hir.specs.Blocks.{same_id}
 use Rattle.rl_hir.specs.declared.function.BlockKind.TheVariants as block
 use Rattle.rl_hir.specs.declared.terminal.GotoVariant.TheVariants as gotos
-use Rattle.rl_machine.specs.Machine.{Code}
 use Rattle.rl_machine.specs.Silence.{Settles}
 use Rattle.rl_order.proofs.Ordering.{or_left, same_self}
 use Rattle.rl_runs.proofs.BlockIds.{IsFree, free_aside, free_fresh, ids_aside, ids_counted, ids_then}
@@ -17,9 +16,9 @@ use Rattle.rl_runs.proofs.Moves.{contained_before, extends_then, terminal_met}
 use Rattle.rl_runs.proofs.Naming.{named_ended, named_goto, named_more, named_then, same_targets}
 use Rattle.rl_runs.proofs.Points.{settle_aside, settle_goto}
 use Rattle.rl_runs.proofs.Used.{below_or, ended_there, ends_more, looped_ended, notes_back, straight_below, straight_ended, straight_then}
-use Rattle.rl_runs.specs.Blocks.{AreEnds, AreLooped, HasPoint, IsLedTo, JumpsSettle, Leads, NamesSince, NotesOwn, Passes, PointsSettle}
+use Rattle.rl_runs.specs.Blocks.{AreEnds, AreLooped, HasPoint, JumpsSettle, Leads, NamesSince, NotesOwn, Passes, PointsSettle}
 use Rattle.rl_runs.specs.Blocks.{PreservesBlocks, PreservesIds, StraightBelow, StraightSince, UniqueIds}
-use Rattle.rl_runs.specs.Facts.{Extends, IsCompleted, IsContainedIn, IsCurrentOrCompleted}
+use Rattle.rl_runs.specs.Facts.{IsCompleted, IsCurrentOrCompleted}
 use Rattle.rl_runs.specs.Moves.{block_id, goto}
 
 -- The points up to `x` settle, and so do the blocks of the init and of `again`.

@@ -1,26 +1,20 @@
 -- The live instructions of a `for` loop stand in blocks that are reached, and so are the targets of the jumps out of it.
 use Rattle.std.proofs.Common.{◌≡◌, ℕ, ◌+◌, ◌++◌, true, false, if◌then◌else◌, List, [], length, All, Option, Some, None, ◌∙◌, subst}
 use Rattle.std.proofs.lemmas.List.Elements.{All-append, All-nil}
-use Rattle.rl_base.specs.declared.ids.BlockId.{BlockId}
-use Rattle.rl_base.specs.declared.span.Span.{Span}
-use Rattle.rl_builder.specs.Builder.{State}
 use Rattle.rl_builder.specs.declared.jumps.JumpScope.{JumpScope}
+use Rattle.rl_frames.proofs.Common.{BlockId, Code, Extends, IsContainedIn, IsLedTo, Label, Place, Span, State}
 use Rattle.rl_frames.proofs.ForFronts.{init_comes}
 use Rattle.rl_frames.proofs.ForStates.{IsForIn, for_front, for_in, for_into, for_led_behind, for_led_body, for_tests, update_extends}
 use Rattle.rl_frames.specs.Parts.{for_begun, for_body, for_finished, for_update}
 use Rattle.rl_hir.specs.Blocks.{same_id}
 use Rattle.rl_hir.specs.declared.instruction.Instruction.{Instruction}
-use Rattle.rl_hir.specs.declared.instruction.Place.{Place}
 use Rattle.rl_hir.specs.declared.terminal.GotoVariant.TheVariants as gotos
-use Rattle.rl_machine.specs.Machine.{Code}
-use Rattle.rl_model.specs.Actions.{Label}
 use Rattle.rl_model.specs.Dead.{Outs, goes_on, loop_outs}
 use Rattle.rl_order.proofs.Ordering.{or_left, same_self}
 use Rattle.rl_runs.proofs.Holes.{contained_hole}
 use Rattle.rl_runs.proofs.Leaving.{BreakLeads, ContinueLeads, all_if, loop_breaks, loop_continues, loop_goes_on, outs_by}
 use Rattle.rl_runs.proofs.Moves.{contained_before, terminal_met}
-use Rattle.rl_runs.specs.Blocks.{IsLedTo, Leads, Leaves, Lives, Passes, Stands}
-use Rattle.rl_runs.specs.Facts.{Extends, IsContainedIn}
+use Rattle.rl_runs.specs.Blocks.{Leads, Leaves, Lives, Passes, Stands}
 use Rattle.rl_runs.specs.Moves.{block_id, goto, without_scope}
 
 module _ (s y s4 s5 : State) (label : Label) (again : BlockId) (update : Option BlockId) (test : Place) (span part last : Span)

@@ -1,19 +1,15 @@
 -- The steps of loops in a `for` loop, and the notes that are read.
 use Rattle.std.proofs.Common.{ℕ, ◌+◌, ◌-◌, length, take, Option, Some, None, refl, ◌∙◌, arith}
-use Rattle.rl_base.specs.declared.ids.BlockId.{BlockId}
-use Rattle.rl_base.specs.declared.span.Span.{Span}
-use Rattle.rl_builder.specs.Builder.{State, new_block, reserved}
+use Rattle.rl_builder.specs.Builder.{new_block, reserved}
+use Rattle.rl_frames.proofs.Common.{BlockId, Extends, Label, Place, Span, State}
 use Rattle.rl_frames.proofs.ForStates.{for_branch, for_front, for_numbered, for_shut_at, for_tests, init_extends, update_extends}
 use Rattle.rl_frames.specs.Parts.{for_begun, for_body, for_end, for_finished, for_update}
 use Rattle.rl_hir.specs.declared.function.BlockKind.TheVariants as block
-use Rattle.rl_hir.specs.declared.instruction.Place.{Place}
 use Rattle.rl_hir.specs.declared.terminal.GotoVariant.TheVariants as gotos
-use Rattle.rl_model.specs.Actions.{Label}
 use Rattle.rl_runs.proofs.HoleNotes.{steps_closed, steps_hole, steps_same, unread_aside, unread_branched, unread_same}
 use Rattle.rl_runs.proofs.Moves.{extends_then}
 use Rattle.rl_runs.proofs.ReadNotes.{unread_ended, unread_then}
 use Rattle.rl_runs.proofs.StepNotes.{steps_then}
-use Rattle.rl_runs.specs.Facts.{Extends}
 use Rattle.rl_runs.specs.Moves.{block_id, goto}
 use Rattle.rl_runs.specs.ReadNotes.{KeepsUnread}
 use Rattle.rl_runs.specs.StepNotes.{KeepsSteps}

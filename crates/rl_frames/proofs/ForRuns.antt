@@ -1,21 +1,19 @@
 -- The runs of `for` loops.
 use Rattle.std.proofs.Common.{◌≡◌, ℕ, zero, suc, ◌+◌, ◌<◌, inl, List, length, Option, Some, None, refl, sym, ◌∙◌, subst, arith}
-use Rattle.rl_base.specs.declared.ids.BlockId.{BlockId}
-use Rattle.rl_base.specs.declared.span.Span.{Span}
-use Rattle.rl_builder.specs.Builder.{State, innermost, new_block}
+use Rattle.rl_builder.specs.Builder.{innermost, new_block}
+use Rattle.rl_frames.proofs.Common.{BlockId, Code, Extends, IsContainedIn, Label, Place, Span, State}
 use Rattle.rl_frames.proofs.ForStates.{IsForIn, for_behind, for_body_extends, for_ends, for_front, for_in, for_notes, for_numbered}
 use Rattle.rl_frames.proofs.ForStates.{for_shut_at, for_test_extends, for_tests, init_extends, update_extends}
 use Rattle.rl_frames.specs.Meanings.{again_tested, for_looped, for_repeated, for_turns, front_ways, updated}
 use Rattle.rl_frames.specs.Parts.{for_begun, for_body, for_end, for_finished, for_update}
 use Rattle.rl_hir.specs.declared.function.BlockKind.TheVariants as block
-use Rattle.rl_hir.specs.declared.instruction.Place.{Place}
 use Rattle.rl_hir.specs.declared.terminal.GotoVariant.TheVariants as gotos
 use Rattle.rl_machine.specs.declared.trace.Answer.{Answer}
 use Rattle.rl_machine.specs.declared.trace.Value.{Value}
 use Rattle.rl_machine.specs.Ends.{Loops, Note, Notes, noted}
-use Rattle.rl_machine.specs.Machine.{Code, Ends, at, branched, changer, choice_at}
+use Rattle.rl_machine.specs.Machine.{Ends, at, branched, changer, choice_at}
 use Rattle.rl_machine.specs.Traces.{Cont, Store, World, set_open, tested, truthy, waiting}
-use Rattle.rl_model.specs.Actions.{Action, Label, Ways, done}
+use Rattle.rl_model.specs.Actions.{Action, Ways, done}
 use Rattle.rl_runs.proofs.Events.{tests_come}
 use Rattle.rl_runs.proofs.Holes.{contained_hole, hole_goes, same_jumps, same_throws, use_expression, use_statement}
 use Rattle.rl_runs.proofs.Jumping.{jumps_in_loop}
@@ -26,7 +24,7 @@ use Rattle.rl_runs.proofs.Steps.{throws_then}
 use Rattle.rl_runs.specs.Continuations.{Agrees, Eventually, Follows, Inside, Jumps, SharesVariables, Since, Throws, TracesAt, TracesFrom}
 use Rattle.rl_runs.specs.Continuations.{between}
 use Rattle.rl_runs.specs.Exits.{loop_ways, switch_ways}
-use Rattle.rl_runs.specs.Facts.{Extends, HasSoundNames, IsContainedIn}
+use Rattle.rl_runs.specs.Facts.{HasSoundNames}
 use Rattle.rl_runs.specs.Moves.{block_id, branch, without_scope}
 use Rattle.rl_runs.specs.Simulation.{RunsExpression, RunsJumpless, RunsStatement}
 

@@ -1,24 +1,19 @@
 -- The states of a `for` loop between its holes, and code that contains the last of them. In front of the body stand the holes of its init
 -- and of its update, the last of which ends at `y`.
 use Rattle.std.proofs.Common.{◌≡◌, ℕ, ◌+◌, ◌-◌, false, List, [], ◌∷◌, length, take, Option, refl, ap, ◌∙◌}
-use Rattle.rl_base.specs.declared.ids.BlockId.{BlockId}
-use Rattle.rl_base.specs.declared.span.Span.{Span}
-use Rattle.rl_builder.specs.Builder.{State, new_block, reserved}
+use Rattle.rl_builder.specs.Builder.{new_block, reserved}
 use Rattle.rl_builder.specs.declared.jumps.JumpScope.{JumpScope}
+use Rattle.rl_frames.proofs.Common.{BlockId, Code, Extends, IsContainedIn, IsLedTo, Label, Place, Span, State}
 use Rattle.rl_frames.specs.Parts.{for_begun, for_body, for_end, for_finished, for_scope, for_test, for_update}
 use Rattle.rl_hir.specs.Blocks.{same_id}
 use Rattle.rl_hir.specs.declared.function.BlockKind.TheVariants as block
-use Rattle.rl_hir.specs.declared.instruction.Place.{Place}
 use Rattle.rl_hir.specs.declared.terminal.GotoVariant.TheVariants as gotos
 use Rattle.rl_hir.specs.declared.terminal.Terminal.{Terminal}
 use Rattle.rl_machine.specs.Ends.{Loops, Note}
-use Rattle.rl_machine.specs.Machine.{Code}
-use Rattle.rl_model.specs.Actions.{Label}
 use Rattle.rl_order.proofs.Ordering.{or_left, or_right, same_self}
 use Rattle.rl_runs.proofs.Holes.{aside, contained_hole, contained_stacked, front_added}
 use Rattle.rl_runs.proofs.Moves.{contained_before, extends_completed, extends_reserved, extends_then, terminal_met}
-use Rattle.rl_runs.specs.Blocks.{IsLedTo, Leads}
-use Rattle.rl_runs.specs.Facts.{Extends, IsContainedIn}
+use Rattle.rl_runs.specs.Blocks.{Leads}
 use Rattle.rl_runs.specs.Moves.{block_id, branch, goto, last_hole, without_scope}
 
 -- The notes that the terminal of a `for` loop leaves: at its init, at its test, and behind it.

@@ -1,8 +1,8 @@
 -- The notes that are read in constructs whose terminals `build` never replaces: none of a block behind one that it may replace.
 use Rattle.std.proofs.Common.{ℕ, ◌+◌, ◌-◌, List, length, take, Some, refl, ◌∙◌, arith}
 use Rattle.rl_base.specs.declared.operator.LogicalOperator.{LogicalOperator}
-use Rattle.rl_base.specs.declared.span.Span.{Span}
-use Rattle.rl_builder.specs.Builder.{State, new_block, pushed, reserved}
+use Rattle.rl_builder.specs.Builder.{new_block, pushed, reserved}
+use Rattle.rl_frames.proofs.Common.{Extends, Place, Span, State}
 use Rattle.rl_frames.specs.Parts.{if_begun, if_end, if_finished, label_begun, label_end, label_finished, loads, logical_begun, logical_end}
 use Rattle.rl_frames.specs.Parts.{logical_entered, logical_finished, logical_left, logical_place, logical_reserved, logical_right}
 use Rattle.rl_frames.specs.Parts.{sequence_begun, sequence_end, sequence_finished, sequence_place, sequence_reserved}
@@ -11,12 +11,10 @@ use Rattle.rl_frames.specs.Parts.{ternary_test}
 use Rattle.rl_hir.specs.declared.function.BlockKind.TheVariants as block
 use Rattle.rl_hir.specs.declared.instruction.InstructionKind.TheVariants as variables
 use Rattle.rl_hir.specs.declared.instruction.InstructionValue.TheVariants as values
-use Rattle.rl_hir.specs.declared.instruction.Place.{Place}
 use Rattle.rl_hir.specs.declared.terminal.GotoVariant.TheVariants as gotos
 use Rattle.rl_runs.proofs.HoleNotes.{unread_aside, unread_branched, unread_next, unread_same, unread_value}
 use Rattle.rl_runs.proofs.Moves.{extends_pushed, extends_value}
 use Rattle.rl_runs.proofs.ReadNotes.{unread_ended, unread_pushed, unread_then}
-use Rattle.rl_runs.specs.Facts.{Extends}
 use Rattle.rl_runs.specs.Moves.{branch, goto, last_hole, next_hole, stored_in, without_scope}
 use Rattle.rl_runs.specs.ReadNotes.{KeepsUnread}
 

@@ -1,8 +1,8 @@
 -- The numbers of blocks, types, identifiers and instructions that constructs add, together.
 use Rattle.std.proofs.Common.{◌≡◌, ℕ, ◌+◌, ◌≤◌, Bool, true, false, List, length-append, Option, Some, None, arith}
 use Rattle.rl_base.specs.declared.operator.LogicalOperator.{LogicalOperator}
-use Rattle.rl_base.specs.declared.span.Span.{Span}
-use Rattle.rl_builder.specs.Builder.{State, reserved}
+use Rattle.rl_builder.specs.Builder.{reserved}
+use Rattle.rl_frames.proofs.Common.{Label, Place, Span, State}
 use Rattle.rl_frames.specs.Frames.{ForParts, IfParts, LogicalParts, SequenceParts, TernaryParts, if_alternate, if_branched, if_consequent}
 use Rattle.rl_frames.specs.Frames.{if_ended}
 use Rattle.rl_frames.specs.Frames.{for_bodied, for_ended, for_inited, for_inited_by, for_updated}
@@ -14,9 +14,7 @@ use Rattle.rl_frames.specs.Parts.{try_finished, try_handler, try_started, while_
 use Rattle.rl_hir.specs.declared.function.BlockKind.TheVariants as block
 use Rattle.rl_hir.specs.declared.instruction.InstructionKind.TheVariants as kind
 use Rattle.rl_hir.specs.declared.instruction.InstructionValue.TheVariants as values
-use Rattle.rl_hir.specs.declared.instruction.Place.{Place}
 use Rattle.rl_hir.specs.declared.terminal.GotoVariant.TheVariants as gotos
-use Rattle.rl_model.specs.Actions.{Label}
 use Rattle.rl_runs.proofs.Sizes.{size_pushed, size_value}
 use Rattle.rl_runs.specs.Blocks.{size_of}
 use Rattle.rl_runs.specs.Moves.{block_id, last_hole, next_hole, stored_in}

@@ -1,11 +1,10 @@
 -- The blocks of an `if` statement of two branches.
 use Rattle.std.proofs.Common.{◌≡◌, ℕ, ◌+◌, ◌<◌, ◌≤◌, inl, inr, List, length, refl, sym, subst, arith}
-use Rattle.rl_base.specs.declared.span.Span.{Span}
-use Rattle.rl_builder.specs.Builder.{State, new_block, reserved}
+use Rattle.rl_builder.specs.Builder.{new_block, reserved}
 use Rattle.rl_builder.specs.declared.jumps.JumpScope.{JumpScope}
+use Rattle.rl_frames.proofs.Common.{Extends, IsContainedIn, IsLedTo, Place, Span, State}
 use Rattle.rl_frames.specs.Parts.{if_begun, if_end, if_finished}
 use Rattle.rl_hir.specs.declared.function.BlockKind.TheVariants as block
-use Rattle.rl_hir.specs.declared.instruction.Place.{Place}
 use Rattle.rl_hir.specs.declared.terminal.GotoVariant.TheVariants as gotos
 use Rattle.rl_machine.proofs.Silence.{settles_tests}
 use Rattle.rl_runs.proofs.BlockIds.{IsFree, free_aside, free_fresh, free_then, ids_aside, ids_counted, ids_ended, ids_fresh, ids_then}
@@ -14,9 +13,9 @@ use Rattle.rl_runs.proofs.Moves.{contained_before, extends_completed, extends_th
 use Rattle.rl_runs.proofs.Points.{empty_settles, settle_aside, settle_completed, settle_goto}
 use Rattle.rl_runs.proofs.Used.{below_or, ended_there, looped_ended, notes_back, still_there, straight_ended, straight_fresh}
 use Rattle.rl_runs.proofs.Used.{straight_then, used_fresh, used_then}
-use Rattle.rl_runs.specs.Blocks.{AreUsed, IsLedTo, JumpsSettle, Looping, PointsSettle, PreservesIds, PreservesUniqueIds, Settling}
+use Rattle.rl_runs.specs.Blocks.{AreUsed, JumpsSettle, Looping, PointsSettle, PreservesIds, PreservesUniqueIds, Settling}
 use Rattle.rl_runs.specs.Blocks.{StraightBelow, StraightSince, UniqueIds}
-use Rattle.rl_runs.specs.Facts.{Extends, IsContainedIn, IsCurrentOrCompleted}
+use Rattle.rl_runs.specs.Facts.{IsCurrentOrCompleted}
 use Rattle.rl_runs.specs.Moves.{goto, last_hole, next_hole}
 
 module _ (s s2 s3 s4 : State) (test : Place) (span part other : Span) where

@@ -1,15 +1,13 @@
 -- The blocks of an `if` statement without an alternate.
 use Rattle.std.proofs.Common.{◌≡◌, ℕ, ◌+◌, ◌<◌, ◌≤◌, inl, inr, List, length, refl, sym, subst, arith}
-use Rattle.rl_base.specs.declared.span.Span.{Span}
-use Rattle.rl_builder.specs.Builder.{State, ended_by, new_block, reserved}
+use Rattle.rl_builder.specs.Builder.{ended_by, new_block, reserved}
 use Rattle.rl_builder.specs.declared.jumps.JumpScope.{JumpScope}
+use Rattle.rl_frames.proofs.Common.{Code, Extends, IsContainedIn, IsLedTo, Place, Span, State}
 use Rattle.rl_frames.proofs.Ifs.{if_then_extends}
 use Rattle.rl_frames.specs.Parts.{if_begun, if_end, if_finished}
 use Rattle.rl_hir.specs.declared.function.BlockKind.TheVariants as block
-use Rattle.rl_hir.specs.declared.instruction.Place.{Place}
 use Rattle.rl_hir.specs.declared.terminal.GotoVariant.TheVariants as gotos
 use Rattle.rl_machine.proofs.Silence.{settles_tests}
-use Rattle.rl_machine.specs.Machine.{Code}
 use Rattle.rl_runs.proofs.BlockIds.{IsFree, free_aside, free_fresh, free_then, ids_aside, ids_counted, ids_ended, ids_then}
 use Rattle.rl_runs.proofs.Holes.{contained_hole}
 use Rattle.rl_runs.proofs.Moves.{contained_before, extends_completed, terminal_met}
@@ -17,9 +15,9 @@ use Rattle.rl_runs.proofs.Naming.{named_ended, named_goto, named_then, named_thr
 use Rattle.rl_runs.proofs.Points.{empty_settles, settle_aside, settle_completed, settle_goto}
 use Rattle.rl_runs.proofs.Used.{below_or, ended_there, ends_more, looped_ended, notes_back, still_there, straight_below, straight_ended}
 use Rattle.rl_runs.proofs.Used.{straight_then}
-use Rattle.rl_runs.specs.Blocks.{AreUsed, IsLedTo, JumpsSettle, NamesSince, PointsSettle, PreservesBlocks, PreservesIds, Settling}
+use Rattle.rl_runs.specs.Blocks.{AreUsed, JumpsSettle, NamesSince, PointsSettle, PreservesBlocks, PreservesIds, Settling}
 use Rattle.rl_runs.specs.Blocks.{StraightBelow, StraightSince, UniqueIds}
-use Rattle.rl_runs.specs.Facts.{Extends, IsContainedIn, IsCurrentOrCompleted}
+use Rattle.rl_runs.specs.Facts.{IsCurrentOrCompleted}
 use Rattle.rl_runs.specs.Moves.{block_id, goto, last_hole}
 
 module _ (s s2 s4 : State) (test : Place) (span part : Span) where

@@ -1,17 +1,16 @@
 -- The runs of an `if` statement.
 use Rattle.std.proofs.Common.{◌≡◌, ℕ, ◌+◌, ◌<◌, ◌≤◌, List, length, refl, sym, subst, arith}
-use Rattle.rl_base.specs.declared.span.Span.{Span}
-use Rattle.rl_builder.specs.Builder.{State, innermost, new_block, reserved}
+use Rattle.rl_builder.specs.Builder.{innermost, new_block, reserved}
 use Rattle.rl_builder.specs.declared.blocks.WipBlock.{WipBlock}
+use Rattle.rl_frames.proofs.Common.{Code, Extends, IsContainedIn, Place, Span, State}
 use Rattle.rl_frames.specs.Meanings.{chosen}
 use Rattle.rl_frames.specs.Parts.{if_begun, if_end, if_finished}
 use Rattle.rl_hir.specs.declared.function.BlockKind.TheVariants as block
-use Rattle.rl_hir.specs.declared.instruction.Place.{Place}
 use Rattle.rl_hir.specs.declared.terminal.GotoVariant.TheVariants as gotos
 use Rattle.rl_machine.specs.declared.trace.Answer.{Answer}
 use Rattle.rl_machine.specs.declared.trace.Value.{Value}
 use Rattle.rl_machine.specs.Ends.{Notes, Passes, noted}
-use Rattle.rl_machine.specs.Machine.{Code, Ends, at, changer}
+use Rattle.rl_machine.specs.Machine.{Ends, at, changer}
 use Rattle.rl_machine.specs.Traces.{Cont, Store, World, set_open, tested, truthy}
 use Rattle.rl_model.specs.Actions.{Action, Ways, done}
 use Rattle.rl_runs.proofs.Events.{tests_come}
@@ -20,7 +19,7 @@ use Rattle.rl_runs.proofs.Moves.{contained_before, extends_completed, extends_re
 use Rattle.rl_runs.proofs.Steps.{inside_refl, since_noted, since_start, since_then, steps_on}
 use Rattle.rl_runs.specs.Continuations.{Agrees, Eventually, Follows, Jumps, SharesVariables, Since, Throws, TracesAt, TracesFrom}
 use Rattle.rl_runs.specs.Continuations.{between}
-use Rattle.rl_runs.specs.Facts.{Extends, HasSoundNames, IsContainedIn}
+use Rattle.rl_runs.specs.Facts.{HasSoundNames}
 use Rattle.rl_runs.specs.Moves.{block_id, goto, last_hole, next_hole}
 use Rattle.rl_runs.specs.Simulation.{RunsExpression, RunsStatement}
 

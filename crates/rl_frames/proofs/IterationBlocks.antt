@@ -2,25 +2,22 @@
 use Rattle.std.proofs.Common.{◌≡◌, ℕ, ◌+◌, ◌<◌, ◌≤◌, inl, inr, ◌++◌, false, List, [], ◌∷◌, length, length-append, Option, Some, None}
 use Rattle.std.proofs.Common.{refl, sym}
 use Rattle.std.proofs.Common.{◌∙◌, subst, arith}
-use Rattle.rl_base.specs.declared.ids.BlockId.{BlockId}
-use Rattle.rl_base.specs.declared.span.Span.{Span}
-use Rattle.rl_builder.specs.Builder.{State, ended_by, innermost, maybe_throw, new_block, plainly_pushed, pushed_under, reserved}
+use Rattle.rl_builder.specs.Builder.{ended_by, innermost, maybe_throw, new_block, plainly_pushed, pushed_under, reserved}
 use Rattle.rl_builder.specs.Builder.{with_temporary}
 use Rattle.rl_builder.specs.declared.jumps.JumpScope.{JumpScope}
 use Rattle.rl_builder.specs.Temporaries.{temporary, unordered}
+use Rattle.rl_frames.proofs.Common.{BlockId, Code, Extends, IsContainedIn, IsLedTo, Label, Place, Span, State}
 use Rattle.rl_frames.proofs.RoundBlocks.{IsHead, IsOpened, rounds_opened, rounds_preserves}
 use Rattle.rl_frames.specs.Parts.{forof_begun, forof_end, forof_init, forof_next, forof_opened, forof_test, rounds_body, rounds_finished}
 use Rattle.rl_hir.specs.Blocks.{same_id}
 use Rattle.rl_hir.specs.declared.function.BlockKind.TheVariants as block
 use Rattle.rl_hir.specs.declared.instruction.Instruction.{Instruction}
 use Rattle.rl_hir.specs.declared.instruction.InstructionValue.TheVariants as values
-use Rattle.rl_hir.specs.declared.instruction.Place.{Place}
 use Rattle.rl_hir.specs.declared.terminal.GotoVariant.TheVariants as gotos
 use Rattle.rl_machine.proofs.Silence.{settles_behind, settles_goes, settles_runs}
 use Rattle.rl_machine.specs.Ends.{Iterates, leaving}
-use Rattle.rl_machine.specs.Machine.{Code, Runs}
+use Rattle.rl_machine.specs.Machine.{Runs}
 use Rattle.rl_machine.specs.Silence.{LeavesStraight, Settles}
-use Rattle.rl_model.specs.Actions.{Label}
 use Rattle.rl_order.proofs.Ordering.{or_left, same_self}
 use Rattle.rl_runs.proofs.BlockIds.{free_ended, free_then, ids_ended, ids_then}
 use Rattle.rl_runs.proofs.Holes.{contained_hole}
@@ -30,9 +27,9 @@ use Rattle.rl_runs.proofs.Passing.{passes_pushed}
 use Rattle.rl_runs.proofs.Points.{empty_settles, settle_completed, settle_goto}
 use Rattle.rl_runs.proofs.Preserving.{blocks_then, blocks_value}
 use Rattle.rl_runs.proofs.Used.{below_or, ended_there, ends_more, looped_ended, notes_back, straight_below, straight_ended, straight_then}
-use Rattle.rl_runs.specs.Blocks.{IsLedTo, IsNameSince, JumpsSettle, Leads, NamesBlock, NamesSince, Passes, PreservesBlocks, PreservesIds}
+use Rattle.rl_runs.specs.Blocks.{IsNameSince, JumpsSettle, Leads, NamesBlock, NamesSince, Passes, PreservesBlocks, PreservesIds}
 use Rattle.rl_runs.specs.Blocks.{Settling, StraightSince}
-use Rattle.rl_runs.specs.Facts.{Extends, IsContainedIn, IsCurrentOrCompleted}
+use Rattle.rl_runs.specs.Facts.{IsCurrentOrCompleted}
 use Rattle.rl_runs.specs.Moves.{block_id, goto}
 
 -- An instruction settles where the point behind it does.

@@ -1,26 +1,25 @@
 -- The runs of a `for`-`of` loop.
 use Rattle.std.proofs.Common.{◌≡◌, ℕ, suc, ◌+◌, ◌-◌, ◌<◌, ◌≤◌, inl, inr, true, false, List, [], ◌∷◌, length, length-append, take}
 use Rattle.std.proofs.Common.{Option, Some, refl, sym, ap, ◌∙◌, subst, arith}
-use Rattle.rl_base.specs.declared.span.Span.{Span}
-use Rattle.rl_builder.specs.Builder.{State, innermost, new_block, pushed, reserved, with_temporary}
+use Rattle.rl_builder.specs.Builder.{innermost, new_block, pushed, reserved, with_temporary}
 use Rattle.rl_builder.specs.Temporaries.{temporary, unordered}
 use Rattle.rl_builder.specs.declared.jumps.JumpScope.{JumpScope}
 use Rattle.rl_builder.specs.declared.jumps.JumpScope.TheVariants as scope
+use Rattle.rl_frames.proofs.Common.{Code, Extends, IsContainedIn, Label, Place, Span, State}
 use Rattle.rl_frames.proofs.RoundRuns.{IsKept, OfPoints, round_body_part, round_head_part, rounds_again}
 use Rattle.rl_frames.specs.Meanings.{front_ways, iterated, rounds}
 use Rattle.rl_frames.specs.Parts.{forof_begun, forof_end, forof_init, forof_next, forof_opened, forof_test, rounds_body, rounds_finished}
 use Rattle.rl_hir.specs.declared.function.BlockKind.TheVariants as block
 use Rattle.rl_hir.specs.declared.instruction.Instruction.{Instruction}
 use Rattle.rl_hir.specs.declared.instruction.InstructionValue.TheVariants as values
-use Rattle.rl_hir.specs.declared.instruction.Place.{Place}
 use Rattle.rl_hir.specs.declared.terminal.GotoVariant.TheVariants as gotos
 use Rattle.rl_machine.specs.Acts.{Steps}
 use Rattle.rl_machine.specs.declared.trace.Answer.{Answer}
 use Rattle.rl_machine.specs.declared.trace.Value.{Value}
 use Rattle.rl_machine.specs.Ends.{Iterates, Note, Notes, noted}
-use Rattle.rl_machine.specs.Machine.{Code, Runs, caught, changer, choice_at, exit_at, opened}
+use Rattle.rl_machine.specs.Machine.{Runs, caught, changer, choice_at, exit_at, opened}
 use Rattle.rl_machine.specs.Traces.{Cont, Store, World, fired, set, set_open}
-use Rattle.rl_model.specs.Actions.{Action, Label, Ways}
+use Rattle.rl_model.specs.Actions.{Action, Ways}
 use Rattle.rl_model.specs.Events.{get_iterator, next_of}
 use Rattle.rl_runs.proofs.Events.{fired_comes}
 use Rattle.rl_runs.proofs.Holes.{aside, front_added, hole_goes, same_throws, use_expression}
@@ -31,7 +30,7 @@ use Rattle.rl_runs.proofs.Steps.{inside_refl, noted_other, noted_same, set_other
 use Rattle.rl_runs.proofs.Steps.{since_set, since_start, since_then, steps_on}
 use Rattle.rl_runs.specs.Continuations.{Agrees, Eventually, Follows, Inside, IsOutside, Jumps, Range, SharesVariables, Since}
 use Rattle.rl_runs.specs.Continuations.{Throws, TracesAt, TracesFrom, between}
-use Rattle.rl_runs.specs.Facts.{Extends, HasSoundNames, IsContainedIn, Nobody}
+use Rattle.rl_runs.specs.Facts.{HasSoundNames, Nobody}
 use Rattle.rl_runs.specs.Moves.{block_id, branch, goto}
 use Rattle.rl_runs.specs.Simulation.{RunsExpression, RunsPattern, RunsStatement}
 

@@ -1,10 +1,10 @@
 -- A labelled statement that is no loop: its runs, and what it preserves of the blocks.
 use Rattle.std.proofs.Common.{◌≡◌, ℕ, zero, suc, ◌+◌, ◌-◌, ◌<◌, ◌≤◌, inl, inr, ◌++◌, false, List, [], ◌∷◌, length, take, Option}
 use Rattle.std.proofs.Common.{Ok, Err, refl, ap, ◌∙◌, subst, arith}
-use Rattle.rl_base.specs.declared.span.Span.{Span}
-use Rattle.rl_builder.specs.Builder.{State, completed_by, ended_by, innermost, new_block, reserved}
+use Rattle.rl_builder.specs.Builder.{completed_by, ended_by, innermost, new_block, reserved}
 use Rattle.rl_builder.specs.declared.jumps.JumpError.TheVariants.{NotALoop}
 use Rattle.rl_builder.specs.declared.jumps.JumpScope.{JumpScope}
+use Rattle.rl_frames.proofs.Common.{Code, Extends, IsContainedIn, IsLedTo, Span, State}
 use Rattle.rl_frames.specs.Parts.{label_begun, label_end, label_finished, label_scope}
 use Rattle.rl_hir.specs.Blocks.{same_id}
 use Rattle.rl_hir.specs.declared.function.BlockKind.TheVariants as block
@@ -13,7 +13,6 @@ use Rattle.rl_hir.specs.declared.terminal.GotoVariant.TheVariants as gotos
 use Rattle.rl_machine.proofs.Silence.{settles_goes}
 use Rattle.rl_machine.specs.declared.trace.Answer.{Answer}
 use Rattle.rl_machine.specs.Ends.{Notes, Passes as PassesOn, Straight, choice, leaving}
-use Rattle.rl_machine.specs.Machine.{Code}
 use Rattle.rl_machine.specs.Silence.{LeavesStraight, Settles}
 use Rattle.rl_machine.specs.Traces.{Cont, Store, World, waiting}
 use Rattle.rl_model.specs.Actions.{Action, Ways, labeled}
@@ -28,12 +27,12 @@ use Rattle.rl_runs.proofs.Naming.{named_ended, named_goto, named_then, named_two
 use Rattle.rl_runs.proofs.Points.{empty_settles, scope_jumps_settle, settle_aside, settle_completed, settle_goto}
 use Rattle.rl_runs.proofs.Steps.{since_noted, since_start}
 use Rattle.rl_runs.proofs.Used.{below_or, ended_there, ends_more, looped_ended, notes_back, straight_ended, straight_then}
-use Rattle.rl_runs.specs.Blocks.{AreUsed, HasPoint, IsLedTo, IsNameSince, IsTarget, Leads, Leaves, Lives, NamesSince, Passes}
+use Rattle.rl_runs.specs.Blocks.{AreUsed, HasPoint, IsNameSince, IsTarget, Leads, Leaves, Lives, NamesSince, Passes}
 use Rattle.rl_runs.specs.Blocks.{PointsSettle}
 use Rattle.rl_runs.specs.Blocks.{PreservesBlocks, PreservesIds, Settling, StraightSince, UniqueIds}
 use Rattle.rl_runs.specs.Continuations.{Agrees, Follows, Inside, Jumps, SharesVariables, Throws, TracesFrom, between}
 use Rattle.rl_runs.specs.Exits.{label_ways}
-use Rattle.rl_runs.specs.Facts.{Extends, HasSoundNames, IsContainedIn, IsCurrentOrCompleted}
+use Rattle.rl_runs.specs.Facts.{HasSoundNames, IsCurrentOrCompleted}
 use Rattle.rl_runs.specs.Moves.{block_id, goto, last_hole, without_scope}
 use Rattle.rl_runs.specs.Simulation.{RunsStatement}
 

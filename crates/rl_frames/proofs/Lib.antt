@@ -1,3 +1,4 @@
+pub mod Common
 pub mod Composes
 pub mod EnumerationBlocks
 pub mod Enumerations

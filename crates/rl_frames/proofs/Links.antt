@@ -1,10 +1,10 @@
 -- The run of the outermost link of an optional chain.
 use Rattle.std.proofs.Common.{◌≡◌, ℕ, ◌+◌, ◌<◌, ◌≤◌, List, [], ◌∷◌, length, length-append, Some, refl}
 use Rattle.std.proofs.Common.{subst, arith}
-use Rattle.rl_base.specs.declared.span.Span.{Span}
-use Rattle.rl_builder.specs.Builder.{State, entered, innermost, new_block, reserved, with_temporary}
+use Rattle.rl_builder.specs.Builder.{entered, innermost, new_block, reserved, with_temporary}
 use Rattle.rl_builder.specs.declared.blocks.WipBlock.{WipBlock}
 use Rattle.rl_builder.specs.Temporaries.{temporary, unordered}
+use Rattle.rl_frames.proofs.Common.{Code, Extends, IsContainedIn, Span, State}
 use Rattle.rl_frames.specs.Parts.{chain_begun, chain_ended, chain_reserved, chain_undefined}
 use Rattle.rl_hir.specs.declared.function.BlockKind.TheVariants as block
 use Rattle.rl_hir.specs.declared.instruction.InstructionKind.TheVariants as variables
@@ -15,7 +15,6 @@ use Rattle.rl_machine.specs.declared.trace.Answer.{Answer}
 use Rattle.rl_machine.specs.declared.trace.Value.{Value}
 use Rattle.rl_machine.specs.declared.trace.Value.TheVariants.{Undefined}
 use Rattle.rl_machine.specs.Ends.{Notes}
-use Rattle.rl_machine.specs.Machine.{Code}
 use Rattle.rl_machine.specs.Traces.{Store, ValueCont, World}
 use Rattle.rl_model.specs.Actions.{Action, Ways, chained}
 use Rattle.rl_runs.proofs.Holes.{aside, computes_on, contained_hole, hole_goes}
@@ -25,7 +24,7 @@ use Rattle.rl_runs.proofs.Moves.{extends_value, value_free}
 use Rattle.rl_runs.proofs.Steps.{set_same, since_set}
 use Rattle.rl_runs.specs.Continuations.{Agrees, Continues, SharesVariables, Since, Throws, TracesAt}
 use Rattle.rl_runs.specs.Continuations.{TracesFrom, between}
-use Rattle.rl_runs.specs.Facts.{Extends, HasSoundNames, IsContainedIn, Nobody}
+use Rattle.rl_runs.specs.Facts.{HasSoundNames, Nobody}
 use Rattle.rl_runs.specs.Moves.{goto}
 use Rattle.rl_runs.specs.Simulation.{RunsExpression, RunsLink}
 

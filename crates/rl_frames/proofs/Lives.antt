@@ -1,23 +1,20 @@
 -- The live instructions of an `if` statement stand in blocks that are reached, and so are the targets of the jumps out of it.
 use Rattle.std.proofs.Common.{◌≡◌, ℕ, ◌+◌, ◌++◌, ◌||◌, Bool, true, false, List, length, All, Option, refl, subst}
 use Rattle.std.proofs.lemmas.List.Elements.{All-append}
-use Rattle.rl_base.specs.declared.span.Span.{Span}
-use Rattle.rl_builder.specs.Builder.{State, new_block, reserved}
+use Rattle.rl_builder.specs.Builder.{new_block, reserved}
 use Rattle.rl_builder.specs.declared.jumps.JumpScope.{JumpScope}
+use Rattle.rl_frames.proofs.Common.{Code, Extends, IsContainedIn, IsLedTo, Place, Span, State}
 use Rattle.rl_frames.specs.Parts.{if_begun, if_end, if_finished}
 use Rattle.rl_hir.specs.Blocks.{same_id}
 use Rattle.rl_hir.specs.declared.function.BlockKind.TheVariants as block
 use Rattle.rl_hir.specs.declared.instruction.Instruction.{Instruction}
-use Rattle.rl_hir.specs.declared.instruction.Place.{Place}
 use Rattle.rl_hir.specs.declared.terminal.GotoVariant.TheVariants as gotos
-use Rattle.rl_machine.specs.Machine.{Code}
 use Rattle.rl_model.specs.Dead.{Outs, either, falling}
 use Rattle.rl_order.proofs.Ordering.{or_left, or_right, same_self}
 use Rattle.rl_runs.proofs.Holes.{contained_hole}
 use Rattle.rl_runs.proofs.Leaving.{BreakLeads, ContinueLeads, by_either, leaves_both, leaves_none}
 use Rattle.rl_runs.proofs.Moves.{contained_before, extends_completed, extends_reserved, terminal_met}
-use Rattle.rl_runs.specs.Blocks.{IsLedTo, Leads, Leaves, Lives, Passes, Stands}
-use Rattle.rl_runs.specs.Facts.{Extends, IsContainedIn}
+use Rattle.rl_runs.specs.Blocks.{Leads, Leaves, Lives, Passes, Stands}
 use Rattle.rl_runs.specs.Moves.{block_id, goto, last_hole, next_hole}
 
 -- The test, behind which two blocks are reached.

@@ -1,12 +1,11 @@
 -- The runs of a logical expression.
 use Rattle.std.proofs.Common.{◌≡◌, ℕ, ◌+◌, ◌<◌, ◌≤◌, false, inl, List, [], ◌∷◌, length, length-append, Option, Some, refl, sym, ◌∙◌}
 use Rattle.std.proofs.Common.{subst, arith}
-use Rattle.rl_base.specs.declared.ids.BlockId.{BlockId}
 use Rattle.rl_base.specs.declared.operator.LogicalOperator.{LogicalOperator}
 use Rattle.rl_base.specs.declared.operator.LogicalOperator.TheVariants as logical
-use Rattle.rl_base.specs.declared.span.Span.{Span}
-use Rattle.rl_builder.specs.Builder.{State, innermost, new_block, pushed, reserved, with_temporary}
+use Rattle.rl_builder.specs.Builder.{innermost, new_block, pushed, reserved, with_temporary}
 use Rattle.rl_builder.specs.Temporaries.{temporary, unordered}
+use Rattle.rl_frames.proofs.Common.{BlockId, Code, Extends, IsContainedIn, IsLedTo, Place, Span, State}
 use Rattle.rl_frames.specs.Meanings.{connected, decided}
 use Rattle.rl_frames.specs.Parts.{loads, logical_begun, logical_end, logical_entered, logical_finished, logical_left, logical_place}
 use Rattle.rl_frames.specs.Parts.{logical_reserved, logical_right}
@@ -14,12 +13,11 @@ use Rattle.rl_hir.specs.Blocks.{same_id}
 use Rattle.rl_hir.specs.declared.function.BlockKind.TheVariants as block
 use Rattle.rl_hir.specs.declared.instruction.InstructionKind.TheVariants as kind
 use Rattle.rl_hir.specs.declared.instruction.InstructionValue.TheVariants as values
-use Rattle.rl_hir.specs.declared.instruction.Place.{Place}
 use Rattle.rl_hir.specs.declared.terminal.GotoVariant.TheVariants as gotos
 use Rattle.rl_machine.specs.declared.trace.Answer.{Answer}
 use Rattle.rl_machine.specs.declared.trace.Value.{Value}
 use Rattle.rl_machine.specs.Ends.{Connects, Note, Notes, choice, noted}
-use Rattle.rl_machine.specs.Machine.{Code, Ends, at, branched, changer, choice_at}
+use Rattle.rl_machine.specs.Machine.{Ends, at, branched, changer, choice_at}
 use Rattle.rl_machine.specs.Traces.{Cont, Store, ValueCont, World, nullish, set, set_open, tested, truthy}
 use Rattle.rl_model.specs.Actions.{Action, Ways}
 use Rattle.rl_order.proofs.Ordering.{or_left, same_self}
@@ -31,10 +29,10 @@ use Rattle.rl_runs.proofs.Moves.{contained_before, extends_completed, extends_pu
 use Rattle.rl_runs.proofs.Moves.{extends_value, goes_on, inside, push_runs, terminal_met}
 use Rattle.rl_runs.proofs.Passing.{passes_pushed}
 use Rattle.rl_runs.proofs.Steps.{inside_refl, noted_same, set_same, since_noted, since_set, since_start, since_then, steps_on}
-use Rattle.rl_runs.specs.Blocks.{IsLedTo, Leads, Passes}
+use Rattle.rl_runs.specs.Blocks.{Leads, Passes}
 use Rattle.rl_runs.specs.Continuations.{IsBehind, SharesVariables, Agrees, Continues, Eventually, Since, Throws, TracesAt, TracesFrom}
 use Rattle.rl_runs.specs.Continuations.{between, Inside}
-use Rattle.rl_runs.specs.Facts.{AreOne, Extends, HasSoundNames, IsContainedIn, Nobody}
+use Rattle.rl_runs.specs.Facts.{AreOne, HasSoundNames, Nobody}
 use Rattle.rl_runs.specs.Moves.{stored_in, block_id, branch, goto, last_hole}
 use Rattle.rl_runs.specs.Simulation.{RunsExpression}
 

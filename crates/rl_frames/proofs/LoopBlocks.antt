@@ -1,29 +1,25 @@
 -- The blocks of a loop: of its test, of its body and behind it. Its terminal leads to the test or to the body first.
 use Rattle.std.proofs.Common.{◌≡◌, ℕ, ◌+◌, ◌<◌, ◌≤◌, ◌⊎◌, inl, inr, true, List, length, None, refl, sym, subst, arith}
-use Rattle.rl_base.specs.declared.ids.BlockId.{BlockId}
-use Rattle.rl_base.specs.declared.span.Span.{Span}
-use Rattle.rl_builder.specs.Builder.{State, new_block, reserved}
+use Rattle.rl_builder.specs.Builder.{new_block, reserved}
 use Rattle.rl_builder.specs.declared.jumps.JumpScope.{JumpScope}
+use Rattle.rl_frames.proofs.Common.{BlockId, Code, Extends, IsContainedIn, IsLedTo, Label, Place, Span, State}
 use Rattle.rl_frames.proofs.LoopStates.{IsLoopIn, loop_in, loop_notes, scopes_left}
 use Rattle.rl_frames.specs.Parts.{loop_body, while_begun, while_finished, while_scope}
 use Rattle.rl_hir.specs.declared.function.BlockKind.TheVariants as block
-use Rattle.rl_hir.specs.declared.instruction.Place.{Place}
 use Rattle.rl_hir.specs.declared.terminal.GotoVariant.TheVariants as gotos
 use Rattle.rl_hir.specs.declared.terminal.Terminal.{Terminal}
 use Rattle.rl_machine.proofs.Silence.{settles_goes, settles_reads}
 use Rattle.rl_machine.specs.Conditions.{loop_blocks}
 use Rattle.rl_machine.specs.Ends.{Goes, Leaving, Straight, Truthy, catcher_of, leaving, noted}
-use Rattle.rl_machine.specs.Machine.{Code}
 use Rattle.rl_machine.specs.Prunes.{Each}
 use Rattle.rl_machine.specs.Silence.{IsNotedStraight, LeavesStraight, Settles}
-use Rattle.rl_model.specs.Actions.{Label}
 use Rattle.rl_runs.proofs.BlockIds.{IsFree, free_aside, free_ended, free_fresh, free_then, ids_aside, ids_counted, ids_ended, ids_then}
 use Rattle.rl_runs.proofs.Moves.{terminal_met}
 use Rattle.rl_runs.proofs.Points.{empty_settles, scope_jumps_settle, settle_aside, settle_completed, settle_goto}
 use Rattle.rl_runs.proofs.Used.{below_or, ended_there, looped_ended, notes_back, straight_ended, straight_then}
-use Rattle.rl_runs.specs.Blocks.{AreUsed, HasPoint, IsLedTo, JumpsSettle, Looping, PointsSettle, PreservesIds, Settling, StraightBelow}
+use Rattle.rl_runs.specs.Blocks.{AreUsed, HasPoint, JumpsSettle, Looping, PointsSettle, PreservesIds, Settling, StraightBelow}
 use Rattle.rl_runs.specs.Blocks.{StraightSince, UniqueIds}
-use Rattle.rl_runs.specs.Facts.{Extends, IsCompleted, IsContainedIn, IsCurrentOrCompleted}
+use Rattle.rl_runs.specs.Facts.{IsCompleted, IsCurrentOrCompleted}
 use Rattle.rl_runs.specs.Moves.{block_id, branch, goto, last_hole, without_scope}
 
 module _ (s s2 s4 : State) (label : Label) (test : Place) (span part : Span) (end : Terminal) (into : ℕ)

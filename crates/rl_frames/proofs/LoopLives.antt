@@ -2,26 +2,22 @@
 use Rattle.std.proofs.Common.{◌≡◌, ℕ, ◌+◌, ◌++◌, ◌||◌, Bool, true, false, if◌then◌else◌, List, [], length, Option, None, refl}
 use Rattle.std.proofs.lemmas.List.Elements.{All-append}
 use Rattle.std.specs.List.{list_any}
-use Rattle.rl_base.specs.declared.span.Span.{Span}
-use Rattle.rl_builder.specs.Builder.{State, new_block}
+use Rattle.rl_builder.specs.Builder.{new_block}
+use Rattle.rl_frames.proofs.Common.{Code, Extends, IsContainedIn, IsLedTo, Label, Place, Span, State}
 use Rattle.rl_frames.proofs.LoopStates.{IsLoopIn, loop_branch, loop_in, loop_shut}
 use Rattle.rl_frames.specs.Parts.{do_while_body, do_while_end, loop_body, while_begun, while_body, while_end, while_finished}
 use Rattle.rl_hir.specs.Blocks.{same_id}
 use Rattle.rl_hir.specs.declared.function.BlockKind.TheVariants as block
 use Rattle.rl_hir.specs.declared.instruction.Instruction.{Instruction}
-use Rattle.rl_hir.specs.declared.instruction.Place.{Place}
 use Rattle.rl_hir.specs.declared.terminal.GotoVariant.TheVariants as gotos
 use Rattle.rl_hir.specs.declared.terminal.Terminal.{Terminal}
 use Rattle.rl_hir.specs.Terminals.{successor_ids}
 use Rattle.rl_machine.specs.Ends.{catcher_of}
-use Rattle.rl_machine.specs.Machine.{Code}
-use Rattle.rl_model.specs.Actions.{Label}
 use Rattle.rl_model.specs.Dead.{Outs, goes_on, is_broken, loop_outs}
 use Rattle.rl_order.proofs.Ordering.{or_left, or_right, same_self}
 use Rattle.rl_runs.proofs.Leaving.{all_if, by_either, loop_breaks, loop_broken, loop_completes, loop_continues, loop_goes_on, outs_by}
 use Rattle.rl_runs.proofs.Moves.{terminal_met}
-use Rattle.rl_runs.specs.Blocks.{IsLedTo, Leads, Leaves, Lives, Passes, Stands}
-use Rattle.rl_runs.specs.Facts.{Extends, IsContainedIn}
+use Rattle.rl_runs.specs.Blocks.{Leads, Leaves, Lives, Passes, Stands}
 use Rattle.rl_runs.specs.Moves.{block_id, goto, without_scope}
 
 -- The block to which the loop's terminal leads.

@@ -1,20 +1,15 @@
 -- The states of a loop between its holes, whose terminal is `end`, and code that contains the last of them.
 use Rattle.std.proofs.Common.{◌≡◌, ℕ, ◌+◌, ◌-◌, List, [], ◌∷◌, length, take, None, refl, ap, ◌∙◌}
-use Rattle.rl_base.specs.declared.ids.BlockId.{BlockId}
-use Rattle.rl_base.specs.declared.span.Span.{Span}
-use Rattle.rl_builder.specs.Builder.{State, new_block, reserved}
+use Rattle.rl_builder.specs.Builder.{new_block, reserved}
 use Rattle.rl_builder.specs.declared.jumps.JumpScope.{JumpScope}
+use Rattle.rl_frames.proofs.Common.{BlockId, Code, Extends, IsContainedIn, Label, Place, Span, State}
 use Rattle.rl_frames.specs.Parts.{loop_body, while_begun, while_finished, while_scope}
 use Rattle.rl_hir.specs.declared.function.BlockKind.TheVariants as block
-use Rattle.rl_hir.specs.declared.instruction.Place.{Place}
 use Rattle.rl_hir.specs.declared.terminal.GotoVariant.TheVariants as gotos
 use Rattle.rl_hir.specs.declared.terminal.Terminal.{Terminal}
 use Rattle.rl_machine.specs.Ends.{Loops, Note, catcher_of}
-use Rattle.rl_machine.specs.Machine.{Code}
-use Rattle.rl_model.specs.Actions.{Label}
 use Rattle.rl_runs.proofs.Holes.{aside, contained_hole, contained_stacked, front_added}
 use Rattle.rl_runs.proofs.Moves.{contained_before, extends_completed, extends_reserved, extends_then}
-use Rattle.rl_runs.specs.Facts.{Extends, IsContainedIn}
 use Rattle.rl_runs.specs.Moves.{block_id, branch, goto, last_hole, without_scope}
 
 -- The notes that the terminal of a loop leaves: at its test, and behind it.

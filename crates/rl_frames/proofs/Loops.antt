@@ -1,20 +1,19 @@
 -- The runs of loops.
 use Rattle.std.proofs.Common.{◌≡◌, ℕ, zero, suc, ◌+◌, ◌<◌, inl, List, length, Option, Some, None, refl, sym, ◌∙◌, subst, arith}
-use Rattle.rl_base.specs.declared.span.Span.{Span}
-use Rattle.rl_builder.specs.Builder.{State, innermost, new_block, reserved}
+use Rattle.rl_builder.specs.Builder.{innermost, new_block, reserved}
+use Rattle.rl_frames.proofs.Common.{Code, Extends, IsContainedIn, Label, Place, Span, State}
 use Rattle.rl_frames.proofs.LoopStates.{IsLoopIn, behind_extends, loop_in, loop_notes, test_extends}
 use Rattle.rl_frames.specs.Meanings.{again_tested, do_looped, do_while_turns, looped, while_turns}
 use Rattle.rl_frames.specs.Parts.{do_while_body, do_while_end, loop_body, while_begun, while_body, while_end, while_finished}
 use Rattle.rl_hir.specs.declared.function.BlockKind.TheVariants as block
-use Rattle.rl_hir.specs.declared.instruction.Place.{Place}
 use Rattle.rl_hir.specs.declared.terminal.GotoVariant.TheVariants as gotos
 use Rattle.rl_hir.specs.declared.terminal.Terminal.{Terminal}
 use Rattle.rl_machine.specs.declared.trace.Answer.{Answer}
 use Rattle.rl_machine.specs.declared.trace.Value.{Value}
 use Rattle.rl_machine.specs.Ends.{Goes, Loops, Note, Notes, catcher_of, leaving, noted}
-use Rattle.rl_machine.specs.Machine.{Code, Ends, at, branched, changer, choice_at}
+use Rattle.rl_machine.specs.Machine.{Ends, at, branched, changer, choice_at}
 use Rattle.rl_machine.specs.Traces.{Cont, Store, World, set_open, tested, truthy, waiting}
-use Rattle.rl_model.specs.Actions.{Action, Label, Ways}
+use Rattle.rl_model.specs.Actions.{Action, Ways}
 use Rattle.rl_runs.proofs.Events.{tests_come}
 use Rattle.rl_runs.proofs.Holes.{hole_goes, same_throws, use_expression, use_statement}
 use Rattle.rl_runs.proofs.Jumping.{jumps_in_loop}
@@ -24,7 +23,7 @@ use Rattle.rl_runs.proofs.Steps.{steps_on, throws_then}
 use Rattle.rl_runs.specs.Continuations.{Agrees, Eventually, Follows, Inside, Jumps, SharesVariables, Since, Throws, TracesAt, TracesFrom}
 use Rattle.rl_runs.specs.Continuations.{between}
 use Rattle.rl_runs.specs.Exits.{loop_ways, switch_ways}
-use Rattle.rl_runs.specs.Facts.{Extends, HasSoundNames, IsContainedIn}
+use Rattle.rl_runs.specs.Facts.{HasSoundNames}
 use Rattle.rl_runs.specs.Moves.{block_id, branch, last_hole, without_scope}
 use Rattle.rl_runs.specs.Simulation.{RunsExpression, RunsStatement}
 

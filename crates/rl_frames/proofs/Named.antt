@@ -1,20 +1,16 @@
 -- The blocks that the complete blocks of constructs name.
 use Rattle.std.proofs.Common.{◌≡◌, ℕ, ◌+◌, ◌-◌, inl, inr, ◌++◌, List, [], ◌∷◌, length, take, ap, ◌∙◌, subst, arith}
-use Rattle.rl_base.specs.declared.ids.BlockId.{BlockId}
-use Rattle.rl_base.specs.declared.span.Span.{Span}
-use Rattle.rl_builder.specs.Builder.{State, new_block, reserved}
+use Rattle.rl_builder.specs.Builder.{new_block, reserved}
 use Rattle.rl_builder.specs.declared.jumps.JumpScope.{JumpScope}
+use Rattle.rl_frames.proofs.Common.{BlockId, Extends, Label, Place, Span, State}
 use Rattle.rl_frames.proofs.LoopStates.{loop_branch, loop_shut, scopes_left}
 use Rattle.rl_frames.specs.Parts.{do_while_body, do_while_end, if_begun, if_end, if_finished, loop_body, while_begun, while_body, while_end}
 use Rattle.rl_frames.specs.Parts.{while_finished, while_scope}
 use Rattle.rl_hir.specs.declared.function.BlockKind.TheVariants as block
-use Rattle.rl_hir.specs.declared.instruction.Place.{Place}
 use Rattle.rl_hir.specs.declared.terminal.GotoVariant.TheVariants as gotos
 use Rattle.rl_hir.specs.declared.terminal.Terminal.{Terminal}
-use Rattle.rl_model.specs.Actions.{Label}
 use Rattle.rl_runs.proofs.Naming.{named_ended, named_goto, named_then, named_three, scope_targets}
 use Rattle.rl_runs.specs.Blocks.{IsNameSince, IsTarget, NamesBlock, NamesSince}
-use Rattle.rl_runs.specs.Facts.{Extends}
 use Rattle.rl_runs.specs.Moves.{block_id, goto, last_hole, next_hole, without_scope}
 
 -- An `if` statement.

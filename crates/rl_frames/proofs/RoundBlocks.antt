@@ -3,36 +3,32 @@
 use Rattle.std.proofs.Common.{◌≡◌, ℕ, ◌+◌, ◌-◌, ◌<◌, ◌≤◌, ◌⊎◌, inl, inr, ◌++◌, true, List, [], ◌∷◌, length, take, None, refl, sym, ap, ◌∙◌}
 use Rattle.std.proofs.Common.{subst, arith}
 use Rattle.std.specs.List.{list_any}
-use Rattle.rl_base.specs.declared.ids.BlockId.{BlockId}
-use Rattle.rl_base.specs.declared.span.Span.{Span}
-use Rattle.rl_builder.specs.Builder.{State, ended_by, new_block}
+use Rattle.rl_builder.specs.Builder.{ended_by, new_block}
 use Rattle.rl_builder.specs.declared.jumps.JumpScope.{JumpScope}
+use Rattle.rl_frames.proofs.Common.{BlockId, Code, Extends, IsContainedIn, IsLedTo, Label, Place, Span, State}
 use Rattle.rl_frames.proofs.RoundStates.{IsRoundsIn, last_extends, led_behind, led_body, numbered, right_extends, rounds_begun}
 use Rattle.rl_frames.proofs.RoundStates.{rounds_branch}
 use Rattle.rl_frames.proofs.RoundStates.{rounds_in, rounds_init, rounds_scope, scope_left}
 use Rattle.rl_frames.specs.Parts.{rounds_body, rounds_finished}
 use Rattle.rl_hir.specs.Blocks.{same_id}
 use Rattle.rl_hir.specs.declared.function.BlockKind.TheVariants as block
-use Rattle.rl_hir.specs.declared.instruction.Place.{Place}
 use Rattle.rl_hir.specs.declared.terminal.GotoVariant.TheVariants as gotos
 use Rattle.rl_hir.specs.declared.terminal.Terminal.{Terminal}
 use Rattle.rl_hir.specs.Terminals.{successor_ids}
 use Rattle.rl_machine.proofs.Silence.{settles_goes, settles_reads}
 use Rattle.rl_machine.specs.Conditions.{loop_blocks}
 use Rattle.rl_machine.specs.Ends.{Goes, Note, catcher_of, leaving}
-use Rattle.rl_machine.specs.Machine.{Code}
 use Rattle.rl_machine.specs.Prunes.{Each}
 use Rattle.rl_machine.specs.Silence.{IsNotedStraight, LeavesStraight, Settles}
-use Rattle.rl_model.specs.Actions.{Label}
 use Rattle.rl_runs.proofs.BlockIds.{IsFree, free_aside, free_ended, free_fresh, free_then, ids_aside, ids_counted, ids_ended, ids_then}
 use Rattle.rl_runs.proofs.Moves.{extends_then, terminal_met}
 use Rattle.rl_runs.proofs.Naming.{named_ended, named_goto, named_then, named_three, scope_targets}
 use Rattle.rl_runs.proofs.Points.{empty_settles, scope_jumps_settle, settle_aside, settle_completed, settle_goto, straight_cases}
 use Rattle.rl_runs.proofs.Used.{below_or, ended_there, ends_more, looped_ended, notes_back, straight_below, straight_ended, straight_then}
-use Rattle.rl_runs.specs.Blocks.{AreEnds, IsLedTo, IsNameSince, IsStraight, IsTarget, JumpsSettle, Leads, Looping, NamesBlock, NamesSince}
+use Rattle.rl_runs.specs.Blocks.{AreEnds, IsNameSince, IsStraight, IsTarget, JumpsSettle, Leads, Looping, NamesBlock, NamesSince}
 use Rattle.rl_runs.specs.Blocks.{NotesOwn, Passes, PointsSettle, PreservesBlocks, PreservesIds, Settling, StraightBelow, StraightSince}
 use Rattle.rl_runs.specs.Blocks.{UniqueIds, is_end}
-use Rattle.rl_runs.specs.Facts.{Extends, IsCompleted, IsContainedIn, IsCurrentOrCompleted}
+use Rattle.rl_runs.specs.Facts.{IsCompleted, IsCurrentOrCompleted}
 use Rattle.rl_runs.specs.Moves.{block_id, goto, without_scope}
 
 -- From the state `y` in the init to the end of the assignment at `s5`, where the loop began at `s`.

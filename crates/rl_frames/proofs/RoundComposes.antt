@@ -1,6 +1,6 @@
 -- The clauses of the frames of loops over keys or values: what each makes of the runs of its holes.
 use Rattle.std.proofs.Common.{◌≡◌, ◌+◌, sym, ap, ◌∙◌, subst}
-use Rattle.rl_builder.specs.Builder.{State}
+use Rattle.rl_frames.proofs.Common.{Place, State}
 use Rattle.rl_frames.proofs.EnumerationBlocks.{forin_blocks}
 use Rattle.rl_frames.proofs.Enumerations.{forin_runs}
 use Rattle.rl_frames.proofs.IterationBlocks.{forof_blocks}
@@ -8,7 +8,6 @@ use Rattle.rl_frames.proofs.Iterations.{forof_runs}
 use Rattle.rl_frames.specs.Meanings.{enumerated, iterated}
 use Rattle.rl_frames.specs.Parts.{rounds_finished}
 use Rattle.rl_frames.specs.Rounds.{ForInComposes, ForOfComposes, ForOfParts, RoundsParts, forof_ended, rounds_ended}
-use Rattle.rl_hir.specs.declared.instruction.Place.{Place}
 use Rattle.rl_runs.specs.Blocks.{PreservesBlocks}
 use Rattle.rl_runs.specs.Simulation.{RunsStatement}
 

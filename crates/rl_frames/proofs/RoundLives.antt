@@ -2,9 +2,9 @@
 use Rattle.std.proofs.Common.{◌≡◌, ℕ, ◌+◌, ◌++◌, Bool, true, false, List, length, Option, Some, None, refl}
 use Rattle.std.proofs.lemmas.List.Elements.{All-append}
 use Rattle.std.specs.List.{list_any}
-use Rattle.rl_base.specs.declared.span.Span.{Span}
-use Rattle.rl_builder.specs.Builder.{State, new_block, with_temporary}
+use Rattle.rl_builder.specs.Builder.{new_block, with_temporary}
 use Rattle.rl_builder.specs.Temporaries.{temporary, unordered}
+use Rattle.rl_frames.proofs.Common.{Code, Extends, IsContainedIn, IsLedTo, Label, Place, Span, State}
 use Rattle.rl_frames.proofs.RoundStates.{IsRoundsIn, led_behind, led_body, rounds_begun, rounds_in, rounds_init}
 use Rattle.rl_frames.specs.Parts.{forin_begun, forin_end, forin_init, forin_next, forof_begun, forof_end, forof_init, forof_next}
 use Rattle.rl_frames.specs.Parts.{forof_opened}
@@ -13,21 +13,17 @@ use Rattle.rl_hir.specs.Blocks.{same_id}
 use Rattle.rl_hir.specs.declared.function.BlockKind.TheVariants as block
 use Rattle.rl_hir.specs.declared.instruction.Instruction.{Instruction}
 use Rattle.rl_hir.specs.declared.instruction.InstructionValue.TheVariants as values
-use Rattle.rl_hir.specs.declared.instruction.Place.{Place}
 use Rattle.rl_hir.specs.declared.terminal.GotoVariant.TheVariants as gotos
 use Rattle.rl_hir.specs.declared.terminal.Terminal.{Terminal}
 use Rattle.rl_hir.specs.Terminals.{successor_ids}
 use Rattle.rl_machine.specs.Ends.{catcher_of}
-use Rattle.rl_machine.specs.Machine.{Code}
-use Rattle.rl_model.specs.Actions.{Label}
 use Rattle.rl_model.specs.Dead.{Outs, loop_outs}
 use Rattle.rl_order.proofs.Ordering.{or_left, same_self}
 use Rattle.rl_runs.proofs.Holes.{contained_hole}
 use Rattle.rl_runs.proofs.Leaving.{loop_breaks, loop_continues, outs_by}
 use Rattle.rl_runs.proofs.Moves.{contained_before, extends_completed, extends_then, extends_value, terminal_met}
 use Rattle.rl_runs.proofs.Passing.{passes_pushed}
-use Rattle.rl_runs.specs.Blocks.{IsLedTo, Leads, Leaves, Lives, Passes, Stands}
-use Rattle.rl_runs.specs.Facts.{Extends, IsContainedIn}
+use Rattle.rl_runs.specs.Blocks.{Leads, Leaves, Lives, Passes, Stands}
 use Rattle.rl_runs.specs.Moves.{block_id, goto}
 
 -- Its terminal `end` leads to the init, which leads to the assignment: that begins at `sn`.

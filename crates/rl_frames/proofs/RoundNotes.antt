@@ -1,12 +1,11 @@
 -- The steps of loops over keys or values, and the notes that are read.
 use Rattle.std.proofs.Common.{◌≡◌, ℕ, ◌+◌, ◌-◌, ◌<◌, ◌≤◌, ◌⊎◌, inl, inr, ◌++◌, List, [], ◌∷◌, length, length-append, take}
 use Rattle.std.proofs.Common.{Option, Some, None, refl, sym, ap, ◌∙◌, subst, arith}
-use Rattle.rl_base.specs.declared.ids.BlockId.{BlockId}
 use Rattle.rl_base.specs.declared.ids.InstructionId.{InstructionId}
-use Rattle.rl_base.specs.declared.span.Span.{Span}
-use Rattle.rl_builder.specs.Builder.{State, innermost, maybe_throw, new_block, plainly_pushed, pushed, pushed_under, reserved}
+use Rattle.rl_builder.specs.Builder.{innermost, maybe_throw, new_block, plainly_pushed, pushed, pushed_under, reserved}
 use Rattle.rl_builder.specs.Builder.{with_temporary}
 use Rattle.rl_builder.specs.Temporaries.{temporary, unordered}
+use Rattle.rl_frames.proofs.Common.{BlockId, Extends, Label, Place, Span, State}
 use Rattle.rl_frames.proofs.RoundStates.{numbered, rounds_begun, rounds_branch, rounds_init}
 use Rattle.rl_frames.specs.Parts.{forin_begun, forin_end, forin_init, forin_next, forof_begun, forof_end, forof_init, forof_next}
 use Rattle.rl_frames.specs.Parts.{forof_opened}
@@ -14,17 +13,14 @@ use Rattle.rl_frames.specs.Parts.{forof_test, rounds_body, rounds_finished}
 use Rattle.rl_hir.specs.declared.function.BlockKind.TheVariants as block
 use Rattle.rl_hir.specs.declared.instruction.Instruction.{Instruction}
 use Rattle.rl_hir.specs.declared.instruction.InstructionValue.TheVariants as values
-use Rattle.rl_hir.specs.declared.instruction.Place.{Place}
 use Rattle.rl_hir.specs.declared.terminal.GotoVariant.TheVariants as gotos
 use Rattle.rl_hir.specs.declared.terminal.Terminal.{Terminal}
 use Rattle.rl_machine.specs.Prunes.{ReadsNote}
-use Rattle.rl_model.specs.Actions.{Label}
 use Rattle.rl_runs.proofs.HoleNotes.{steps_closed, steps_hole, steps_same, unread_aside, unread_branched, unread_value}
 use Rattle.rl_runs.proofs.Moves.{extends_completed, extends_then, extends_value}
 use Rattle.rl_runs.proofs.ReadNotes.{unread_ended, unread_then}
 use Rattle.rl_runs.proofs.StepNotes.{found_below, listed_ended, steps_ended, steps_then}
 use Rattle.rl_runs.proofs.Steps.{added_cases, get_more}
-use Rattle.rl_runs.specs.Facts.{Extends}
 use Rattle.rl_runs.specs.Moves.{block_id, goto}
 use Rattle.rl_runs.specs.ReadNotes.{KeepsUnread, reads_of, replaced_of}
 use Rattle.rl_runs.specs.StepNotes.{AreIn, HasStep, KeepsSteps, KnowsListed, StepIn}

@@ -1,25 +1,23 @@
 -- The rounds of a loop over keys or values, as its graph runs them: from the step that asks for the next one.
 use Rattle.std.proofs.Common.{◌≡◌, ℕ, zero, suc, ◌+◌, ◌-◌, ◌<◌, ◌≤◌, List, length, take, Option, Some, refl, sym, ◌∙◌, subst, arith}
-use Rattle.rl_base.specs.declared.ids.BlockId.{BlockId}
-use Rattle.rl_base.specs.declared.span.Span.{Span}
-use Rattle.rl_builder.specs.Builder.{State, innermost, new_block, with_temporary}
+use Rattle.rl_builder.specs.Builder.{innermost, new_block, with_temporary}
 use Rattle.rl_builder.specs.Temporaries.{temporary, unordered, with_value}
+use Rattle.rl_frames.proofs.Common.{BlockId, Code, Extends, IsContainedIn, Label, Place, Span, State}
 use Rattle.rl_frames.proofs.RoundStates.{numbered_extends, rounds_begun, rounds_branch}
 use Rattle.rl_frames.specs.Meanings.{rounds}
 use Rattle.rl_frames.specs.Parts.{rounds_body, rounds_finished}
 use Rattle.rl_hir.specs.declared.function.BlockKind.TheVariants as block
 use Rattle.rl_hir.specs.declared.instruction.Instruction.{Instruction}
 use Rattle.rl_hir.specs.declared.instruction.InstructionValue.{InstructionValue}
-use Rattle.rl_hir.specs.declared.instruction.Place.{Place}
 use Rattle.rl_hir.specs.declared.terminal.GotoVariant.TheVariants as gotos
 use Rattle.rl_machine.specs.Acts.{Act, Steps, act}
 use Rattle.rl_machine.specs.declared.trace.Answer.{Answer}
 use Rattle.rl_machine.specs.declared.trace.Event.{Event}
 use Rattle.rl_machine.specs.declared.trace.Value.{Value}
 use Rattle.rl_machine.specs.Ends.{Choice, Notes, Straight}
-use Rattle.rl_machine.specs.Machine.{Code, Ends, Runs, branched, caught, choice_at, executed, exit_at, step_to}
+use Rattle.rl_machine.specs.Machine.{Ends, Runs, branched, caught, choice_at, executed, exit_at, step_to}
 use Rattle.rl_machine.specs.Traces.{Cont, Store, World, set, waiting}
-use Rattle.rl_model.specs.Actions.{Action, Label, Ways}
+use Rattle.rl_model.specs.Actions.{Action, Ways}
 use Rattle.rl_runs.proofs.Events.{steps_come}
 use Rattle.rl_runs.proofs.Holes.{contained_hole, contained_stacked, hole_goes, same_throws, use_statement}
 use Rattle.rl_runs.proofs.Jumping.{jumps_in_loop}
@@ -29,7 +27,7 @@ use Rattle.rl_runs.proofs.Steps.{follows_then, inside_refl, jumps_then, set_same
 use Rattle.rl_runs.specs.Continuations.{Eventually, Follows, Inside, IsBehind, Jumps, Range, SharesVariables, Since, Throws}
 use Rattle.rl_runs.specs.Continuations.{TracesAt, TracesFrom, between}
 use Rattle.rl_runs.specs.Exits.{loop_ways, switch_ways}
-use Rattle.rl_runs.specs.Facts.{Extends, HasSoundNames, IsContainedIn}
+use Rattle.rl_runs.specs.Facts.{HasSoundNames}
 use Rattle.rl_runs.specs.Moves.{block_id, without_scope}
 use Rattle.rl_runs.specs.Simulation.{RunsPattern, RunsStatement}
 

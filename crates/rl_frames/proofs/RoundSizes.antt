@@ -1,16 +1,13 @@
 -- The numbers of blocks, types, identifiers and instructions that loops over keys or values add, together.
 use Rattle.std.proofs.Common.{ℕ, ◌+◌, ◌≤◌, Some, arith}
-use Rattle.rl_base.specs.declared.span.Span.{Span}
-use Rattle.rl_builder.specs.Builder.{State}
 use Rattle.rl_builder.specs.Temporaries.{temporary}
+use Rattle.rl_frames.proofs.Common.{Label, Place, Span, State}
 use Rattle.rl_frames.specs.Parts.{forin_begun, forin_init, forin_next, forof_begun, forof_init, forof_next, forof_test, rounds_body}
 use Rattle.rl_frames.specs.Parts.{rounds_finished}
 use Rattle.rl_frames.specs.Rounds.{ForOfParts, RoundsParts, forin_headed, forin_righted, forof_bodied, forof_ended, forof_headed}
 use Rattle.rl_frames.specs.Rounds.{forof_iterator}
 use Rattle.rl_frames.specs.Rounds.{forof_righted, forof_tested, rounds_bodied, rounds_ended}
 use Rattle.rl_hir.specs.declared.instruction.InstructionValue.TheVariants as values
-use Rattle.rl_hir.specs.declared.instruction.Place.{Place}
-use Rattle.rl_model.specs.Actions.{Label}
 use Rattle.rl_runs.proofs.Sizes.{size_value}
 use Rattle.rl_runs.specs.Blocks.{size_of}
 

@@ -1,25 +1,21 @@
 -- The states of a loop over keys or values between its holes, and code that contains the last of them. Its body has the block `l`; the body
 -- ends at `s2`, the right side at `s3`, and the assignment at `s5`.
 use Rattle.std.proofs.Common.{◌≡◌, ℕ, ◌+◌, ◌-◌, ◌≤◌, false, inl, inr, List, length, take, None, refl, ap, ◌∙◌, arith}
-use Rattle.rl_base.specs.declared.span.Span.{Span}
-use Rattle.rl_builder.specs.Builder.{State, completed_by, entered, new_block, with_scope}
+use Rattle.rl_builder.specs.Builder.{completed_by, entered, new_block, with_scope}
 use Rattle.rl_builder.specs.declared.jumps.JumpScope.{JumpScope}
 use Rattle.rl_builder.specs.declared.jumps.JumpScope.TheVariants as scope
+use Rattle.rl_frames.proofs.Common.{Code, Extends, IsContainedIn, IsLedTo, Label, Place, Span, State}
 use Rattle.rl_frames.specs.Parts.{rounds_body, rounds_finished}
 use Rattle.rl_hir.specs.Blocks.{same_id}
 use Rattle.rl_hir.specs.declared.function.BlockKind.TheVariants as block
-use Rattle.rl_hir.specs.declared.instruction.Place.{Place}
 use Rattle.rl_hir.specs.declared.terminal.GotoVariant.TheVariants as gotos
 use Rattle.rl_hir.specs.declared.terminal.Terminal.{Terminal}
 use Rattle.rl_machine.specs.Ends.{catcher_of}
-use Rattle.rl_machine.specs.Machine.{Code}
-use Rattle.rl_model.specs.Actions.{Label}
 use Rattle.rl_order.proofs.Ordering.{or_left, or_right, same_self}
 use Rattle.rl_runs.proofs.FinalNames.{names_refl}
 use Rattle.rl_runs.proofs.Holes.{aside, contained_hole, contained_stacked, front_added}
 use Rattle.rl_runs.proofs.Moves.{contained_before, extends_completed, extends_then, terminal_met}
-use Rattle.rl_runs.specs.Blocks.{IsLedTo, Leads}
-use Rattle.rl_runs.specs.Facts.{Extends, IsContainedIn}
+use Rattle.rl_runs.specs.Blocks.{Leads}
 use Rattle.rl_runs.specs.Moves.{block_id, branch, goto, without_scope}
 
 -- All blocks of the loop numbered, that of its body last.

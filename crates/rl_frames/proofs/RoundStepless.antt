@@ -1,10 +1,9 @@
 -- Loops over keys or values put no step of theirs into a block that may have none: their own steps stand in blocks of its own.
 use Rattle.std.proofs.Common.{◌≡◌, ℕ, ◌+◌, ◌<◌, ◌≤◌, ◌⊎◌, inl, inr, List, [], Option, Some, None, refl}
 use Rattle.std.proofs.Common.{sym, subst, arith}
-use Rattle.rl_base.specs.declared.ids.BlockId.{BlockId}
-use Rattle.rl_base.specs.declared.span.Span.{Span}
-use Rattle.rl_builder.specs.Builder.{State, innermost, maybe_throw, new_block, plainly_pushed, pushed, pushed_under, reserved, with_temporary}
+use Rattle.rl_builder.specs.Builder.{innermost, maybe_throw, new_block, plainly_pushed, pushed, pushed_under, reserved, with_temporary}
 use Rattle.rl_builder.specs.Temporaries.{temporary, unordered, with_value}
+use Rattle.rl_frames.proofs.Common.{BlockId, Label, Place, Span, State}
 use Rattle.rl_frames.proofs.IterationBlocks.{test_ids}
 use Rattle.rl_frames.proofs.RoundBlocks.{opened_ids, shut_ids}
 use Rattle.rl_frames.proofs.RoundNotes.{pushed_listed, pushed_step}
@@ -16,11 +15,9 @@ use Rattle.rl_hir.specs.declared.function.BlockKind.TheVariants as block
 use Rattle.rl_hir.specs.declared.instruction.Instruction.{Instruction}
 use Rattle.rl_hir.specs.declared.instruction.InstructionValue.{InstructionValue}
 use Rattle.rl_hir.specs.declared.instruction.InstructionValue.TheVariants as values
-use Rattle.rl_hir.specs.declared.instruction.Place.{Place}
 use Rattle.rl_hir.specs.declared.terminal.GotoVariant.TheVariants as gotos
 use Rattle.rl_hir.specs.declared.terminal.Terminal.{Terminal}
 use Rattle.rl_machine.specs.Ends.{catcher_of}
-use Rattle.rl_model.specs.Actions.{Label}
 use Rattle.rl_runs.proofs.BlockIds.{free_fresh}
 use Rattle.rl_runs.proofs.Moves.{extends_value}
 use Rattle.rl_runs.proofs.Naming.{named_none}

@@ -1,20 +1,18 @@
 -- A sequence of expressions: its runs, and what it preserves of the blocks.
 use Rattle.std.proofs.Common.{◌≡◌, ℕ, zero, suc, ◌+◌, ◌<◌, ◌≤◌, inl, inr, List, [], ◌∷◌, length, length-append, Some, refl, subst}
 use Rattle.std.proofs.Common.{arith}
-use Rattle.rl_base.specs.declared.span.Span.{Span}
-use Rattle.rl_builder.specs.Builder.{State, completed_by, ended_by, entered, innermost, new_block, reserved, with_temporary}
+use Rattle.rl_builder.specs.Builder.{completed_by, ended_by, entered, innermost, new_block, reserved, with_temporary}
+use Rattle.rl_frames.proofs.Common.{Code, Extends, IsContainedIn, IsLedTo, Place, Span, State}
 use Rattle.rl_frames.specs.Parts.{sequence_begun, sequence_end, sequence_finished, sequence_place, sequence_reserved}
 use Rattle.rl_hir.specs.declared.function.BlockKind.{BlockKind}
 use Rattle.rl_hir.specs.declared.function.BlockKind.TheVariants as block
 use Rattle.rl_hir.specs.declared.instruction.InstructionKind.TheVariants as variables
 use Rattle.rl_hir.specs.declared.instruction.InstructionValue.TheVariants as values
-use Rattle.rl_hir.specs.declared.instruction.Place.{Place}
 use Rattle.rl_hir.specs.declared.terminal.GotoVariant.TheVariants as gotos
 use Rattle.rl_machine.proofs.Silence.{settles_goes}
 use Rattle.rl_machine.specs.declared.trace.Answer.{Answer}
 use Rattle.rl_machine.specs.declared.trace.Value.{Value}
 use Rattle.rl_machine.specs.Ends.{Notes, Passes as PassesOn, Straight, choice, leaving}
-use Rattle.rl_machine.specs.Machine.{Code}
 use Rattle.rl_machine.specs.Silence.{LeavesStraight, Settles}
 use Rattle.rl_machine.specs.Traces.{Store, ValueCont, World}
 use Rattle.rl_model.specs.Actions.{Action, Ways}
@@ -29,10 +27,10 @@ use Rattle.rl_runs.proofs.Points.{empty_settles, settle_aside, settle_completed,
 use Rattle.rl_runs.proofs.Preserving.{blocks_temporary, blocks_then, blocks_value}
 use Rattle.rl_runs.proofs.Steps.{since_noted, since_start}
 use Rattle.rl_runs.proofs.Used.{below_or, ended_there, ends_more, looped_ended, notes_back, straight_ended, straight_then}
-use Rattle.rl_runs.specs.Blocks.{AreUsed, HasPoint, IsLedTo, NamesSince, PointsSettle, PreservesBlocks, PreservesIds, Settling}
+use Rattle.rl_runs.specs.Blocks.{AreUsed, HasPoint, NamesSince, PointsSettle, PreservesBlocks, PreservesIds, Settling}
 use Rattle.rl_runs.specs.Blocks.{StraightSince, UniqueIds}
 use Rattle.rl_runs.specs.Continuations.{Agrees, Continues, Inside, SharesVariables, Throws, TracesFrom, between}
-use Rattle.rl_runs.specs.Facts.{Extends, HasSoundNames, IsContainedIn, IsCurrentOrCompleted, Nobody}
+use Rattle.rl_runs.specs.Facts.{HasSoundNames, IsCurrentOrCompleted, Nobody}
 use Rattle.rl_runs.specs.Moves.{block_id, goto, last_hole, stored_in}
 use Rattle.rl_runs.specs.Simulation.{RunsExpression}
 

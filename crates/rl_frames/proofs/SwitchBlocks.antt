@@ -2,24 +2,21 @@
 use Rattle.std.proofs.Common.{◌≡◌, ℕ, zero, suc, ◌+◌, ◌-◌, ◌<◌, ◌≤◌, inl, inr, ◌++◌, Bool, true, false, is_some, List, [], ◌∷◌}
 use Rattle.std.proofs.Common.{length, map, take, Option, Some, None, Ok, Err, unwrap_or, refl, sym, ◌∙◌, subst, arith}
 use Rattle.std.specs.List.{list_any}
-use Rattle.rl_base.specs.declared.ids.BlockId.{BlockId}
-use Rattle.rl_base.specs.declared.span.Span.{Span}
-use Rattle.rl_builder.specs.Builder.{State, ended_by, new_block, reserved}
+use Rattle.rl_builder.specs.Builder.{ended_by, new_block, reserved}
 use Rattle.rl_builder.specs.declared.jumps.JumpError.TheVariants.{NotALoop}
 use Rattle.rl_builder.specs.declared.jumps.JumpScope.{JumpScope}
 use Rattle.rl_builder.specs.declared.jumps.JumpScope.TheVariants as scope
+use Rattle.rl_frames.proofs.Common.{BlockId, Code, Extends, IsContainedIn, IsLedTo, Label, Place, Span, State}
 use Rattle.rl_frames.proofs.SwitchRuns.{case_extends, default_is, other_of}
 use Rattle.rl_frames.specs.SwitchCases.{AreNumbered, DoneSettle, EachSettles, PreservesCases, SettlesAround}
 use Rattle.rl_frames.specs.SwitchParts.{case_begun, case_ended, fall_of, switch_begun, switch_end, switch_finished, with_default}
 use Rattle.rl_hir.specs.Blocks.{same_id}
 use Rattle.rl_hir.specs.declared.function.BlockKind.TheVariants as block
-use Rattle.rl_hir.specs.declared.instruction.Place.{Place}
 use Rattle.rl_hir.specs.declared.terminal.Case.{Case}
 use Rattle.rl_hir.specs.declared.terminal.GotoVariant.TheVariants as gotos
 use Rattle.rl_machine.proofs.Silence.{settles_compares}
-use Rattle.rl_machine.specs.Machine.{Code, Ends, default_case, or_default}
+use Rattle.rl_machine.specs.Machine.{Ends, default_case, or_default}
 use Rattle.rl_machine.specs.Silence.{Settles}
-use Rattle.rl_model.specs.Actions.{Label}
 use Rattle.rl_runs.proofs.BlockIds.{IsFree, free_aside, free_fresh, free_then, ids_aside, ids_counted, ids_ended, ids_then}
 use Rattle.rl_runs.proofs.Holes.{contained_hole, contained_stacked}
 use Rattle.rl_runs.proofs.Moves.{contained_before, extends_completed, extends_refl, extends_reserved, extends_then, terminal_met}
@@ -27,9 +24,9 @@ use Rattle.rl_runs.proofs.Naming.{named_ended, named_first, named_goto, named_mo
 use Rattle.rl_runs.proofs.Points.{empty_settles, scope_jumps_settle, settle_aside, settle_completed, settle_goto}
 use Rattle.rl_runs.proofs.Used.{below_or, ended_there, ends_more, looped_ended, notes_back, still_there, straight_below, straight_ended}
 use Rattle.rl_runs.proofs.Used.{straight_then, used_refl, used_then}
-use Rattle.rl_runs.specs.Blocks.{AreUsed, HasPoint, IsLedTo, IsNameSince, IsTarget, JumpsSettle, NamesSince, PointsSettle}
+use Rattle.rl_runs.specs.Blocks.{AreUsed, HasPoint, IsNameSince, IsTarget, JumpsSettle, NamesSince, PointsSettle}
 use Rattle.rl_runs.specs.Blocks.{PreservesBlocks, PreservesIds, Settling, StraightSince, UniqueIds, WasNumbered}
-use Rattle.rl_runs.specs.Facts.{At as AtPlace, Extends, InCompleted, IsContainedIn, IsCurrentOrCompleted}
+use Rattle.rl_runs.specs.Facts.{At as AtPlace, InCompleted, IsCurrentOrCompleted}
 use Rattle.rl_runs.specs.Moves.{block_id, goto, without_scope}
 
 -- The blocks of cases.

@@ -1,8 +1,8 @@
 -- The frame of a `switch`: its parts behind one more case, and its last clause.
 use Rattle.std.proofs.Common.{◌≡◌, ◌||◌, is_some, List, [], ◌∷◌, reverse, Option, Some, None, refl, sym, ap, ◌∙◌, subst}
 use Rattle.std.proofs.lemmas.List.{reverse-append, reverse-reverse}
-use Rattle.rl_base.specs.declared.span.Span.{Span}
-use Rattle.rl_builder.specs.Builder.{State, completed_by, new_block}
+use Rattle.rl_builder.specs.Builder.{completed_by, new_block}
+use Rattle.rl_frames.proofs.Common.{Label, Place, Span, State}
 use Rattle.rl_frames.proofs.SwitchBlocks.{cases_then, switch_blocks}
 use Rattle.rl_frames.proofs.SwitchRuns.{switch_runs}
 use Rattle.rl_frames.specs.SwitchCases.{SwitchComposes}
@@ -10,11 +10,9 @@ use Rattle.rl_frames.specs.SwitchMeanings.{selecting}
 use Rattle.rl_frames.specs.SwitchParts.{SwitchParts, is_default, switch_after_done, switch_after_enter, switch_after_leave, switch_at}
 use Rattle.rl_frames.specs.SwitchParts.{switch_ended, switch_finished, with_default}
 use Rattle.rl_hir.specs.declared.function.BlockKind.TheVariants as block
-use Rattle.rl_hir.specs.declared.instruction.Place.{Place}
 use Rattle.rl_hir.specs.declared.terminal.Case.{Case}
 use Rattle.rl_hir.specs.declared.terminal.TerminalKind.TheVariants as kinds
 use Rattle.rl_machine.specs.Machine.{default_case, or_default}
-use Rattle.rl_model.specs.Actions.{Label}
 use Rattle.rl_runs.specs.Blocks.{PreservesBlocks}
 use Rattle.rl_runs.specs.Moves.{block_id, ends_by}
 use Rattle.rl_runs.specs.Simulation.{RunsStatement}

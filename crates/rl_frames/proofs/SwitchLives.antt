@@ -5,29 +5,25 @@ use Rattle.std.proofs.Common.{Option, Some, None, Ok, refl, sym, ap, ◌∙◌, 
 use Rattle.std.proofs.lemmas.List.Elements.{All-append, All-nil}
 use Rattle.std.proofs.lemmas.Bool.{not-true}
 use Rattle.std.specs.List.{list_any}
-use Rattle.rl_base.specs.declared.ids.BlockId.{BlockId}
-use Rattle.rl_base.specs.declared.span.Span.{Span}
-use Rattle.rl_builder.specs.Builder.{State, new_block, reserved}
+use Rattle.rl_builder.specs.Builder.{new_block, reserved}
 use Rattle.rl_builder.specs.declared.jumps.JumpScope.{JumpScope}
 use Rattle.rl_builder.specs.declared.jumps.JumpScope.TheVariants as scope
 use Rattle.rl_builder.specs.Jumps.{lookup_break, takes_break, takes_continue}
+use Rattle.rl_frames.proofs.Common.{BlockId, Code, Extends, IsContainedIn, IsLedTo, Label, Place, Span, State}
 use Rattle.rl_frames.proofs.SwitchRuns.{case_cover_body, case_extends}
 use Rattle.rl_frames.specs.SwitchParts.{case_begun, case_ended, fall_of, switch_begun, switch_end, switch_finished, with_default}
 use Rattle.rl_hir.specs.Blocks.{same_id}
 use Rattle.rl_hir.specs.declared.function.BlockKind.TheVariants as block
 use Rattle.rl_hir.specs.declared.instruction.Instruction.{Instruction}
-use Rattle.rl_hir.specs.declared.instruction.Place.{Place}
 use Rattle.rl_hir.specs.declared.terminal.Case.{Case}
 use Rattle.rl_hir.specs.declared.terminal.GotoVariant.TheVariants as gotos
-use Rattle.rl_machine.specs.Machine.{Code, default_case}
-use Rattle.rl_model.specs.Actions.{Label}
+use Rattle.rl_machine.specs.Machine.{default_case}
 use Rattle.rl_model.specs.Dead.{Outs, either, falling, is_broken, is_labeled, loop_outs, switch_outs}
 use Rattle.rl_order.proofs.Ordering.{or_left, or_right, same_self}
 use Rattle.rl_runs.proofs.Jumping.{break_is}
 use Rattle.rl_runs.proofs.Leaving.{BreakLeads, ContinueLeads, all_kept, continue_left, loop_breaks, loop_broken, loop_completes, outs_by}
 use Rattle.rl_runs.proofs.Moves.{contained_before, extends_completed, extends_refl, terminal_met}
-use Rattle.rl_runs.specs.Blocks.{IsLedTo, Leads, Leaves, Lives, Passes, Stands}
-use Rattle.rl_runs.specs.Facts.{Extends, IsContainedIn}
+use Rattle.rl_runs.specs.Blocks.{Leads, Leaves, Lives, Passes, Stands}
 use Rattle.rl_runs.specs.Moves.{block_id, goto, without_scope}
 
 -- The blocks of the cases are reached.

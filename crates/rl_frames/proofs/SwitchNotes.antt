@@ -1,18 +1,15 @@
 -- The steps of loops in a `switch`, the notes that are read in it, and the number of blocks, types, identifiers and instructions.
 use Rattle.std.proofs.Common.{ℕ, ◌+◌, ◌-◌, ◌≤◌, List, length, take, refl, arith}
-use Rattle.rl_base.specs.declared.span.Span.{Span}
-use Rattle.rl_builder.specs.Builder.{State, new_block, reserved}
+use Rattle.rl_builder.specs.Builder.{new_block, reserved}
+use Rattle.rl_frames.proofs.Common.{Extends, Label, Place, Span, State}
 use Rattle.rl_frames.specs.SwitchParts.{case_begun, case_ended, switch_begun, switch_end, switch_finished}
 use Rattle.rl_hir.specs.declared.function.BlockKind.TheVariants as block
-use Rattle.rl_hir.specs.declared.instruction.Place.{Place}
 use Rattle.rl_hir.specs.declared.terminal.Case.{Case}
 use Rattle.rl_hir.specs.declared.terminal.GotoVariant.TheVariants as gotos
-use Rattle.rl_model.specs.Actions.{Label}
 use Rattle.rl_runs.proofs.HoleNotes.{steps_closed, steps_hole, steps_same, unread_aside, unread_same}
 use Rattle.rl_runs.proofs.ReadNotes.{unread_ended, unread_then}
 use Rattle.rl_runs.proofs.StepNotes.{steps_then}
 use Rattle.rl_runs.specs.Blocks.{size_of}
-use Rattle.rl_runs.specs.Facts.{Extends}
 use Rattle.rl_runs.specs.Moves.{goto}
 use Rattle.rl_runs.specs.ReadNotes.{KeepsUnread}
 use Rattle.rl_runs.specs.StepNotes.{KeepsSteps}

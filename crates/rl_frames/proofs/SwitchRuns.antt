@@ -1,26 +1,24 @@
 -- The runs of a `switch`: its tests from the last case to the first, its value, and the comparisons behind which a case is taken.
 use Rattle.std.proofs.Common.{◌≡◌, ℕ, ◌-◌, ◌<◌, ◌≤◌, inl, ◌++◌, Bool, true, false, is_some, List, [], ◌∷◌, length, take}
 use Rattle.std.proofs.Common.{Option, Some, None, unwrap_or, refl, sym, ap, ◌∙◌, subst, arith}
-use Rattle.rl_base.specs.declared.ids.BlockId.{BlockId}
-use Rattle.rl_base.specs.declared.span.Span.{Span}
-use Rattle.rl_builder.specs.Builder.{State, innermost, new_block, reserved}
+use Rattle.rl_builder.specs.Builder.{innermost, new_block, reserved}
 use Rattle.rl_builder.specs.declared.jumps.JumpScope.{JumpScope}
 use Rattle.rl_builder.specs.declared.jumps.JumpScope.TheVariants as scope
+use Rattle.rl_frames.proofs.Common.{BlockId, Code, Extends, IsContainedIn, Label, Place, Span, State}
 use Rattle.rl_frames.specs.Meanings.{front_ways}
 use Rattle.rl_frames.specs.SwitchCases.{AreAlike, AreMade, AreTested, ContinuesTested, FollowCases, IsAlike, IsMade, RunsCases, RunsTest}
 use Rattle.rl_frames.specs.SwitchMeanings.{CaseMeaning, case_runs, case_ways, default_or, from_default, in_turn, selecting}
 use Rattle.rl_frames.specs.SwitchMeanings.{test_value, test_values}
 use Rattle.rl_frames.specs.SwitchParts.{case_begun, case_ended, fall_of, switch_begun, switch_end, switch_finished, with_default}
 use Rattle.rl_hir.specs.declared.function.BlockKind.TheVariants as block
-use Rattle.rl_hir.specs.declared.instruction.Place.{Place}
 use Rattle.rl_hir.specs.declared.terminal.Case.{Case}
 use Rattle.rl_hir.specs.declared.terminal.GotoVariant.TheVariants as gotos
 use Rattle.rl_machine.specs.declared.trace.Answer.{Answer}
 use Rattle.rl_machine.specs.declared.trace.Value.{Value}
 use Rattle.rl_machine.specs.Ends.{Notes, Passes, noted}
-use Rattle.rl_machine.specs.Machine.{Code, Ends, compared, default_case, or_default}
+use Rattle.rl_machine.specs.Machine.{Ends, compared, default_case, or_default}
 use Rattle.rl_machine.specs.Traces.{Changer, Cont, Store, World, matches, set_open, tested, waiting}
-use Rattle.rl_model.specs.Actions.{Action, Label, Ways}
+use Rattle.rl_model.specs.Actions.{Action, Ways}
 use Rattle.rl_runs.proofs.Holes.{aside, contained_hole, contained_stacked, front_added, hole_goes, same_jumps, same_throws, use_expression}
 use Rattle.rl_runs.proofs.Holes.{use_statement}
 use Rattle.rl_runs.proofs.Jumping.{jumps_in_switch}
@@ -31,7 +29,7 @@ use Rattle.rl_runs.proofs.Switches.{compares_come}
 use Rattle.rl_runs.specs.Continuations.{Agrees, Eventually, Follows, Inside, Jumps, Range, SharesVariables, Since, Throws, TracesAt}
 use Rattle.rl_runs.specs.Continuations.{TracesFrom, between}
 use Rattle.rl_runs.specs.Exits.{AreCases, IsTest, switched}
-use Rattle.rl_runs.specs.Facts.{Extends, HasSoundNames, IsContainedIn, Nobody}
+use Rattle.rl_runs.specs.Facts.{HasSoundNames, Nobody}
 use Rattle.rl_runs.specs.Moves.{block_id, goto, without_scope}
 use Rattle.rl_runs.specs.Simulation.{RunsExpression, RunsStatement}
 

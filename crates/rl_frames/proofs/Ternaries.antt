@@ -1,20 +1,19 @@
 -- The runs of a conditional expression.
 use Rattle.std.proofs.Common.{◌≡◌, ℕ, ◌+◌, ◌<◌, ◌≤◌, inl, List, [], ◌∷◌, length, length-append, Option, Some, refl, sym, ◌∙◌, subst}
 use Rattle.std.proofs.Common.{arith}
-use Rattle.rl_base.specs.declared.span.Span.{Span}
-use Rattle.rl_builder.specs.Builder.{State, innermost, new_block, reserved}
+use Rattle.rl_builder.specs.Builder.{innermost, new_block, reserved}
+use Rattle.rl_frames.proofs.Common.{Code, Extends, IsContainedIn, Place, Span, State}
 use Rattle.rl_frames.specs.Meanings.{selected}
 use Rattle.rl_frames.specs.Parts.{ternary_alternate, ternary_begun, ternary_end, ternary_finished, ternary_place, ternary_reserved}
 use Rattle.rl_frames.specs.Parts.{ternary_test}
 use Rattle.rl_hir.specs.declared.function.BlockKind.TheVariants as block
 use Rattle.rl_hir.specs.declared.instruction.InstructionKind.TheVariants as variables
 use Rattle.rl_hir.specs.declared.instruction.InstructionValue.TheVariants as values
-use Rattle.rl_hir.specs.declared.instruction.Place.{Place}
 use Rattle.rl_hir.specs.declared.terminal.GotoVariant.TheVariants as gotos
 use Rattle.rl_machine.specs.declared.trace.Answer.{Answer}
 use Rattle.rl_machine.specs.declared.trace.Value.{Value}
 use Rattle.rl_machine.specs.Ends.{Chooses, Note, Notes, noted}
-use Rattle.rl_machine.specs.Machine.{Code, Ends, at, branched, changer, choice_at}
+use Rattle.rl_machine.specs.Machine.{Ends, at, branched, changer, choice_at}
 use Rattle.rl_machine.specs.Traces.{Store, ValueCont, World, set_open, tested, truthy}
 use Rattle.rl_model.specs.Actions.{Action, Ways}
 use Rattle.rl_runs.proofs.Events.{tests_come}
@@ -26,7 +25,7 @@ use Rattle.rl_runs.proofs.Moves.{goes_on, inside, terminal_met, value_made}
 use Rattle.rl_runs.proofs.Steps.{inside_refl, noted_same, since_noted, since_start, since_then, steps_on}
 use Rattle.rl_runs.specs.Continuations.{Agrees, Continues, Eventually, Inside, SharesVariables, Since, Throws, TracesAt, TracesFrom}
 use Rattle.rl_runs.specs.Continuations.{between}
-use Rattle.rl_runs.specs.Facts.{Extends, HasSoundNames, IsContainedIn, Nobody}
+use Rattle.rl_runs.specs.Facts.{HasSoundNames, Nobody}
 use Rattle.rl_runs.specs.Moves.{block_id, branch, goto, last_hole, stored_in}
 use Rattle.rl_runs.specs.Simulation.{RunsExpression}
 

@@ -1,23 +1,21 @@
 -- The runs of a `try` statement.
 use Rattle.std.proofs.Common.{◌≡◌, ℕ, ◌-◌, ◌<◌, inl, List, [], ◌∷◌, length, take, Option, Some, None, refl}
 use Rattle.std.proofs.Common.{sym, ap, ◌∙◌, subst, arith}
-use Rattle.rl_base.specs.declared.ids.BlockId.{BlockId}
-use Rattle.rl_base.specs.declared.span.Span.{Span}
-use Rattle.rl_builder.specs.Builder.{State, innermost, new_block, reserved}
+use Rattle.rl_builder.specs.Builder.{innermost, new_block, reserved}
 use Rattle.rl_builder.specs.declared.blocks.WipBlock.{WipBlock}
+use Rattle.rl_frames.proofs.Common.{BlockId, Code, Extends, IsContainedIn, Place, Span, State}
 use Rattle.rl_frames.specs.Parts.{IsFreshBinding, try_begun, try_bound, try_end, try_finished, try_handler}
 use Rattle.rl_hir.specs.declared.function.BlockKind.TheVariants as block
 use Rattle.rl_hir.specs.declared.function.Pair.{Pair}
 use Rattle.rl_hir.specs.declared.instruction.InstructionKind.TheVariants as variables
 use Rattle.rl_hir.specs.declared.instruction.InstructionValue.TheVariants as values
-use Rattle.rl_hir.specs.declared.instruction.Place.{Place}
 use Rattle.rl_hir.specs.declared.terminal.GotoVariant.TheVariants as gotos
 use Rattle.rl_machine.specs.declared.trace.Answer.{Answer}
 use Rattle.rl_machine.specs.declared.trace.Trace.{Trace}
 use Rattle.rl_machine.specs.declared.trace.Value.{Value}
 use Rattle.rl_machine.specs.declared.trace.Value.TheVariants.{Undefined}
 use Rattle.rl_machine.specs.Ends.{Catches, Notes, bound, noted}
-use Rattle.rl_machine.specs.Machine.{Code, set_where}
+use Rattle.rl_machine.specs.Machine.{set_where}
 use Rattle.rl_machine.specs.Traces.{Cont, Store, ValueCont, World}
 use Rattle.rl_model.specs.Actions.{Action, Ways, catching}
 use Rattle.rl_runs.proofs.FinalNames.{nobody_fresh}
@@ -29,7 +27,7 @@ use Rattle.rl_runs.proofs.Steps.{inside_refl, jumps_then, noted_other, noted_sam
 use Rattle.rl_runs.proofs.Steps.{since_then, throws_then}
 use Rattle.rl_runs.specs.Continuations.{Agrees, Catching, Follows, Holds, Inside, Jumps, SharesVariables, Since, Throws, TracesAt}
 use Rattle.rl_runs.specs.Continuations.{TracesFrom, between}
-use Rattle.rl_runs.specs.Facts.{CoversNames, Extends, HasSoundNames, IsContainedIn}
+use Rattle.rl_runs.specs.Facts.{CoversNames, HasSoundNames}
 use Rattle.rl_runs.specs.Moves.{block_id, goto, last_hole, without_handler}
 use Rattle.rl_runs.specs.Simulation.{RunsHandler, RunsStatement}
 

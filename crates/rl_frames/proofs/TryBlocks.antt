@@ -2,11 +2,10 @@
 use Rattle.std.proofs.Common.{◌≡◌, ℕ, ◌+◌, ◌-◌, ◌<◌, ◌≤◌, ◌⊎◌, inl, inr, ◌++◌, Bool, true, false, List, [], ◌∷◌, length, take, All, Option}
 use Rattle.std.proofs.Common.{Some, None, refl, sym, ap, ◌∙◌, subst, arith}
 use Rattle.std.proofs.lemmas.List.Elements.{All-append}
-use Rattle.rl_base.specs.declared.ids.BlockId.{BlockId}
-use Rattle.rl_base.specs.declared.span.Span.{Span}
-use Rattle.rl_builder.specs.Builder.{State, ended_by, innermost, new_block, reserved, with_temporary}
+use Rattle.rl_builder.specs.Builder.{ended_by, innermost, new_block, reserved, with_temporary}
 use Rattle.rl_builder.specs.declared.jumps.JumpScope.{JumpScope}
 use Rattle.rl_builder.specs.Temporaries.{temporary, unordered}
+use Rattle.rl_frames.proofs.Common.{BlockId, Code, Extends, IsContainedIn, IsLedTo, Place, Span, State}
 use Rattle.rl_frames.proofs.Tries.{block_extends, first_extends, try_extends}
 use Rattle.rl_frames.specs.Parts.{try_bound, try_end, try_finished, try_handler, try_started}
 use Rattle.rl_hir.specs.Blocks.{same_id}
@@ -14,11 +13,9 @@ use Rattle.rl_hir.specs.declared.function.BlockKind.TheVariants as block
 use Rattle.rl_hir.specs.declared.instruction.Instruction.{Instruction}
 use Rattle.rl_hir.specs.declared.instruction.InstructionKind.TheVariants as variables
 use Rattle.rl_hir.specs.declared.instruction.InstructionValue.TheVariants as values
-use Rattle.rl_hir.specs.declared.instruction.Place.{Place}
 use Rattle.rl_hir.specs.declared.terminal.GotoVariant.TheVariants as gotos
 use Rattle.rl_machine.proofs.Silence.{settles_goes}
 use Rattle.rl_machine.specs.Ends.{Catches, Straight, bound, choice, leaving}
-use Rattle.rl_machine.specs.Machine.{Code}
 use Rattle.rl_machine.specs.Silence.{LeavesStraight, Settles}
 use Rattle.rl_model.specs.Dead.{Outs, either}
 use Rattle.rl_order.proofs.Ordering.{or_left, same_self}
@@ -33,10 +30,10 @@ use Rattle.rl_runs.proofs.Preserving.{blocks_refl, blocks_value}
 use Rattle.rl_runs.proofs.Steps.{added_cases}
 use Rattle.rl_runs.proofs.Used.{below_or, ended_there, ends_more, looped_ended, notes_back, still_there, straight_below, straight_ended}
 use Rattle.rl_runs.proofs.Used.{straight_fresh, straight_then}
-use Rattle.rl_runs.specs.Blocks.{AreUsed, ByBreak, ByContinue, ByHandler, IsLedTo, IsNameSince, IsTarget, JumpsSettle, Leads, Leaves, Lives}
+use Rattle.rl_runs.specs.Blocks.{AreUsed, ByBreak, ByContinue, ByHandler, IsNameSince, IsTarget, JumpsSettle, Leads, Leaves, Lives}
 use Rattle.rl_runs.specs.Blocks.{NamesSince, Passes, PointsSettle, PreservesBlocks, PreservesIds, PreservesUniqueIds, Settling, Stands}
 use Rattle.rl_runs.specs.Blocks.{StraightBelow, StraightSince, UniqueIds}
-use Rattle.rl_runs.specs.Facts.{Extends, IsContainedIn, IsCurrentOrCompleted}
+use Rattle.rl_runs.specs.Facts.{IsCurrentOrCompleted}
 use Rattle.rl_runs.specs.Moves.{block_id, goto, last_hole, without_handler}
 
 pub bound_blocks : (x : State) (binding : Option Place) → PreservesBlocks x (try_bound x binding)

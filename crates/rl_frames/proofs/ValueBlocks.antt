@@ -1,19 +1,16 @@
 -- The blocks of an expression with two branches that give a value, and a test behind its terminal: logical and conditional expressions.
 use Rattle.std.proofs.Common.{◌≡◌, ℕ, ◌+◌, ◌<◌, ◌≤◌, ◌⊎◌, inl, inr, true, List, [], length, Some, None, refl, sym, subst, arith}
-use Rattle.rl_base.specs.declared.ids.BlockId.{BlockId}
-use Rattle.rl_base.specs.declared.span.Span.{Span}
-use Rattle.rl_builder.specs.Builder.{State, completed_by, ended_by, entered, new_block, reserved}
+use Rattle.rl_builder.specs.Builder.{completed_by, ended_by, entered, new_block, reserved}
 use Rattle.rl_builder.specs.declared.jumps.JumpScope.{JumpScope}
+use Rattle.rl_frames.proofs.Common.{BlockId, Code, Extends, IsContainedIn, IsLedTo, Place, Span, State}
 use Rattle.rl_hir.specs.declared.function.BlockKind.{BlockKind}
 use Rattle.rl_hir.specs.declared.function.BlockKind.TheVariants as block
-use Rattle.rl_hir.specs.declared.instruction.Place.{Place}
 use Rattle.rl_hir.specs.declared.terminal.GotoVariant.TheVariants as gotos
 use Rattle.rl_hir.specs.declared.terminal.Terminal.{Terminal}
 use Rattle.rl_hir.specs.declared.terminal.TerminalKind.{TerminalKind}
 use Rattle.rl_machine.proofs.Silence.{settles_goes, settles_reads}
 use Rattle.rl_machine.specs.Conditions.{loop_blocks}
 use Rattle.rl_machine.specs.Ends.{Goes, Note, catcher_of, leaving}
-use Rattle.rl_machine.specs.Machine.{Code}
 use Rattle.rl_machine.specs.Prunes.{Each}
 use Rattle.rl_machine.specs.Silence.{IsNotedStraight, LeavesStraight}
 use Rattle.rl_runs.proofs.BlockIds.{IsFree, free_aside, free_ended, free_fresh, free_then, ids_aside, ids_counted, ids_ended, ids_fresh}
@@ -24,9 +21,9 @@ use Rattle.rl_runs.proofs.Naming.{named_ended, named_goto, named_more, named_the
 use Rattle.rl_runs.proofs.Points.{empty_settles, settle_aside, settle_completed, settle_goto}
 use Rattle.rl_runs.proofs.Used.{below_or, ended_there, ends_more, looped_ended, notes_back, still_there, straight_below, straight_ended}
 use Rattle.rl_runs.proofs.Used.{straight_fresh, straight_then, used_fresh, used_then}
-use Rattle.rl_runs.specs.Blocks.{AreUsed, IsLedTo, IsNameSince, JumpsSettle, NamesBlock, NamesSince, PointsSettle, PreservesBlocks}
+use Rattle.rl_runs.specs.Blocks.{AreUsed, IsNameSince, JumpsSettle, NamesBlock, NamesSince, PointsSettle, PreservesBlocks}
 use Rattle.rl_runs.specs.Blocks.{PreservesIds, PreservesUniqueIds, Settling, StraightBelow, StraightSince, UniqueIds, is_end}
-use Rattle.rl_runs.specs.Facts.{Extends, IsCompleted, IsContainedIn, IsCurrentOrCompleted}
+use Rattle.rl_runs.specs.Facts.{IsCompleted, IsCurrentOrCompleted}
 use Rattle.rl_runs.specs.Moves.{block_id, branch, ends_by, goto, last_hole, next_hole}
 
 -- A terminal that goes on in the block behind `behind`, and names these two.

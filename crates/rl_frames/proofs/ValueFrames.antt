@@ -2,14 +2,13 @@
 use Rattle.std.proofs.Common.{◌≡◌, ℕ, ◌+◌, inl, inr, [], ◌∷◌, Some, refl}
 use Rattle.rl_base.specs.declared.operator.LogicalOperator.{LogicalOperator}
 use Rattle.rl_base.specs.declared.operator.LogicalOperator.TheVariants as logical
-use Rattle.rl_base.specs.declared.span.Span.{Span}
-use Rattle.rl_builder.specs.Builder.{State, with_temporary}
+use Rattle.rl_builder.specs.Builder.{with_temporary}
+use Rattle.rl_frames.proofs.Common.{Place, Span, State}
 use Rattle.rl_frames.proofs.ValueBlocks.{LeadsToTest, value_blocks}
 use Rattle.rl_frames.specs.Parts.{loads, logical_begun, logical_entered, logical_finished, logical_left, logical_place, logical_right}
 use Rattle.rl_frames.specs.Parts.{ternary_alternate, ternary_begun, ternary_finished, ternary_place, ternary_test}
 use Rattle.rl_hir.specs.declared.instruction.InstructionKind.TheVariants as variables
 use Rattle.rl_hir.specs.declared.instruction.InstructionValue.TheVariants as values
-use Rattle.rl_hir.specs.declared.instruction.Place.{Place}
 use Rattle.rl_hir.specs.declared.terminal.TerminalKind.TheVariants as kinds
 use Rattle.rl_machine.specs.Ends.{Chooses, Connects, Straight, choice}
 use Rattle.rl_runs.proofs.Naming.{named_first, named_none}

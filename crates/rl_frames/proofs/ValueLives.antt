@@ -3,24 +3,20 @@
 use Rattle.std.proofs.Common.{◌≡◌, ℕ, ◌+◌, ◌++◌, Bool, true, List, [], ◌∷◌, length, Option, refl}
 use Rattle.std.specs.List.{list_any}
 use Rattle.std.proofs.lemmas.List.Elements.{All-append}
-use Rattle.rl_base.specs.declared.ids.BlockId.{BlockId}
-use Rattle.rl_base.specs.declared.span.Span.{Span}
-use Rattle.rl_builder.specs.Builder.{State, completed_by, entered, new_block, reserved}
+use Rattle.rl_builder.specs.Builder.{completed_by, entered, new_block, reserved}
+use Rattle.rl_frames.proofs.Common.{BlockId, Code, Extends, IsContainedIn, IsLedTo, Place, Span, State}
 use Rattle.rl_frames.specs.Parts.{if_begun, if_end, if_finished}
 use Rattle.rl_hir.specs.Blocks.{same_id}
 use Rattle.rl_hir.specs.declared.function.BlockKind.{BlockKind}
 use Rattle.rl_hir.specs.declared.function.BlockKind.TheVariants as block
 use Rattle.rl_hir.specs.declared.instruction.Instruction.{Instruction}
-use Rattle.rl_hir.specs.declared.instruction.Place.{Place}
 use Rattle.rl_hir.specs.declared.terminal.GotoVariant.TheVariants as gotos
 use Rattle.rl_hir.specs.declared.terminal.Terminal.{Terminal}
 use Rattle.rl_hir.specs.Terminals.{successor_ids}
-use Rattle.rl_machine.specs.Machine.{Code}
 use Rattle.rl_order.proofs.Ordering.{or_left, or_right, same_self}
 use Rattle.rl_runs.proofs.Holes.{contained_hole}
 use Rattle.rl_runs.proofs.Moves.{contained_before, extends_completed, extends_reserved, terminal_met}
-use Rattle.rl_runs.specs.Blocks.{IsLedTo, Leads, Lives, Stands}
-use Rattle.rl_runs.specs.Facts.{Extends, IsContainedIn}
+use Rattle.rl_runs.specs.Blocks.{Leads, Lives, Stands}
 use Rattle.rl_runs.specs.Moves.{block_id, branch, goto, last_hole, next_hole}
 
 -- The terminal leads to its first and to its second successor.

@@ -1,7 +1,7 @@
 -- The parts of the blocks that constructs keep, as one record.
 use Rattle.std.proofs.Common.{◌≡◌, ℕ, ◌+◌, ◌⊎◌, inl, inr, true, [], ◌∷◌, None, refl}
-use Rattle.rl_base.specs.declared.span.Span.{Span}
-use Rattle.rl_builder.specs.Builder.{State, ended_by}
+use Rattle.rl_builder.specs.Builder.{ended_by}
+use Rattle.rl_frames.proofs.Common.{Code, IsContainedIn, IsLedTo, Label, Place, Span, State}
 use Rattle.rl_frames.proofs.IfBlocks.{if_ids, if_looped, if_settles, if_straight, if_used}
 use Rattle.rl_frames.proofs.Ifs.{if_extends}
 use Rattle.rl_frames.proofs.LoopBlocks.{loop_ids, loop_looped, loop_settles, loop_straight, loop_used}
@@ -11,18 +11,14 @@ use Rattle.rl_frames.proofs.Named.{do_while_named, if_named, while_named}
 use Rattle.rl_frames.specs.Parts.{do_while_body, do_while_end, if_begun, if_end, if_finished, loop_body, while_begun, while_body, while_end}
 use Rattle.rl_frames.specs.Parts.{while_finished}
 use Rattle.rl_hir.specs.declared.function.BlockKind.TheVariants as block
-use Rattle.rl_hir.specs.declared.instruction.Place.{Place}
 use Rattle.rl_hir.specs.declared.terminal.GotoVariant.TheVariants as gotos
 use Rattle.rl_hir.specs.declared.terminal.Terminal.{Terminal}
 use Rattle.rl_machine.specs.Conditions.{loop_blocks}
 use Rattle.rl_machine.specs.Ends.{Goes, catcher_of, leaving}
-use Rattle.rl_machine.specs.Machine.{Code}
 use Rattle.rl_machine.specs.Prunes.{Each}
-use Rattle.rl_model.specs.Actions.{Label}
 use Rattle.rl_runs.proofs.Moves.{contained_before}
 use Rattle.rl_runs.proofs.Used.{ends_more}
-use Rattle.rl_runs.specs.Blocks.{IsLedTo, NamesSince, Passes, PreservesBlocks, is_end}
-use Rattle.rl_runs.specs.Facts.{IsContainedIn}
+use Rattle.rl_runs.specs.Blocks.{NamesSince, Passes, PreservesBlocks, is_end}
 use Rattle.rl_runs.specs.Moves.{block_id, goto, last_hole, next_hole}
 
 pub if_blocks : (s s2 s3 s4 : State) (test : Place) (span part other : Span) → PreservesBlocks (if_begun s) s2

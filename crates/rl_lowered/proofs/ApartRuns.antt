@@ -1,13 +1,11 @@
 -- Targets that are patterns, and binding patterns, take a value apart.
 use Rattle.std.proofs.Common.{◌≡◌, ◌++◌, Bool, true, false, true≢false, List, ◌∷◌, length, codes, Some, refl, sym, ap, ◌∙◌, subst}
-use Rattle.rl_base.specs.declared.span.Span.{Span}
-use Rattle.rl_builder.specs.Builder.{State}
 use Rattle.rl_builder.specs.Temporaries.{with_value}
-use Rattle.rl_hir.specs.Pieces.{Piece, pattern_pieces}
+use Rattle.rl_hir.specs.Pieces.{pattern_pieces}
 use Rattle.rl_hir.specs.declared.instruction.InstructionKind.{InstructionKind}
 use Rattle.rl_hir.specs.declared.instruction.Pattern.{Pattern}
-use Rattle.rl_hir.specs.declared.instruction.Place.{Place}
 use Rattle.rl_lowered.proofs.BoundSlots.{BoundSlots, second_round}
+use Rattle.rl_lowered.proofs.Common.{At, End, Node, Piece, Pieces, Place, Said, Span, State, Syntax, Then}
 use Rattle.rl_lowered.proofs.ItemBlocks.{Stays}
 use Rattle.rl_lowered.proofs.SlotRuns.{RunsLater, apart_runs, set_slots, slots_from, taken_apart}
 use Rattle.rl_lowered.proofs.TakenSlots.{TakenSlots, taking}
@@ -26,10 +24,9 @@ use Rattle.rl_promises.specs.Patterns.{is_pattern}
 use Rattle.rl_runs.proofs.Moves.{extends_then}
 use Rattle.rl_runs.specs.Facts.{Extends}
 use Rattle.rl_runs.specs.Simulation.{RunsOn}
-use Rattle.rl_syntax.specs.declared.numbered.At.{At}
 use Rattle.rl_syntax.specs.declared.word.Word.{Word}
 use Rattle.rl_syntax.specs.declared.word.Word.TheVariants as word
-use Rattle.rl_syntax.specs.Syntax.{Syntax, Node, Listed, Said, Pieces, End, Then}
+use Rattle.rl_syntax.specs.Syntax.{Listed}
 
 -- The parts that take pieces behind the instruction are run by lemmas of their own.
 

@@ -2,34 +2,28 @@
 use Rattle.std.proofs.Common.{◌≡◌, ℕ, ◌+◌, ◌++◌, Bool, true, false, if◌then◌else◌, Option, List, [], ◌∷◌, Some, None, Ok, map, reverse}
 use Rattle.std.proofs.Common.{codes, refl, sym, ap, ◌∙◌}
 use Rattle.std.proofs.lemmas.List.{reverse-append}
-use Rattle.rl_base.specs.declared.diagnostic.Diagnostic.{Diagnostic}
-use Rattle.rl_base.specs.declared.ids.BlockId.{BlockId}
-use Rattle.rl_base.specs.declared.ids.SymbolId.{SymbolId}
 use Rattle.rl_base.specs.declared.row.Row.TheVariants as row
-use Rattle.rl_base.specs.declared.span.Span.{Span}
 use Rattle.rl_base.specs.Diagnostics.{diagnostic_at}
-use Rattle.rl_builder.specs.Builder.{State, reserved}
+use Rattle.rl_builder.specs.Builder.{reserved}
 use Rattle.rl_builder.specs.declared.jumps.JumpScope.{JumpScope}
 use Rattle.rl_builder.specs.declared.jumps.JumpScope.TheVariants as scopes
 use Rattle.rl_builder.specs.Jumps.{break_block_of, break_target, continue_block_of, continue_target, lookup_break, lookup_continue}
 use Rattle.rl_builder.specs.Jumps.{takes_break, takes_continue}
 use Rattle.rl_frames.specs.Parts.{forin_begun, forof_begun, label_begun, label_scope, while_begun, while_scope}
 use Rattle.rl_frames.specs.SwitchParts.{case_begun}
-use Rattle.rl_hir.specs.declared.instruction.Place.{Place}
 use Rattle.rl_hir.specs.declared.terminal.Case.{Case}
 use Rattle.rl_lowered.proofs.Blocks.{blocks_caught, cases_blocks, expression_blocks, statement_blocks, statements_blocks}
 use Rattle.rl_lowered.proofs.Catches.{declares_caught}
+use Rattle.rl_lowered.proofs.Common.{BlockId, Diagnostic, Names, Pieces, Place, Span, State, SymbolId, Syntax}
 use Rattle.rl_lowered.specs.Arounds.{around_of, arounds}
 use Rattle.rl_lowered.specs.Items.{promoted}
 use Rattle.rl_lowered.specs.Lowered.{Lowered, LoweredCases, LoweredStatement, LoweredStatements, catch_begun, catch_bound}
 use Rattle.rl_lowered.specs.Named.{IsFound}
 use Rattle.rl_model.specs.Actions.{Label}
-use Rattle.rl_names.specs.Names.{Names}
 use Rattle.rl_promises.specs.Jumps.{InLabeled, InLoop, InSwitch, breaks_out, continues_in, is_in_loop, stop_of_break, stop_of_continue}
 use Rattle.rl_runs.proofs.Moves.{extends_value}
 use Rattle.rl_runs.specs.Blocks.{PreservesBlocks}
 use Rattle.rl_runs.specs.Moves.{block_id}
-use Rattle.rl_syntax.specs.Syntax.{Pieces, Syntax}
 
 -- A scope takes a jump as the statement does that it stands for.
 

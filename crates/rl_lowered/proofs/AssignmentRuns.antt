@@ -3,23 +3,19 @@
 use Rattle.std.proofs.Common.{◌≡◌, ℕ, IfSome, Bool, true, if◌then◌else◌, List, [], ◌∷◌, length, Option, Some, None, codes, refl}
 use Rattle.std.proofs.Common.{sym, ap, ◌∙◌, subst, arith}
 use Rattle.rl_base.specs.Operators.{assignment_text, operator_text}
-use Rattle.rl_base.specs.declared.ids.BlockId.{BlockId}
-use Rattle.rl_base.specs.declared.ids.SymbolId.{SymbolId}
 use Rattle.rl_base.specs.declared.operator.AssignmentOperator.{AssignmentOperator}
 use Rattle.rl_base.specs.declared.operator.AssignmentOperator.TheVariants as assignments
 use Rattle.rl_base.specs.declared.operator.BinaryOperator.{BinaryOperator}
-use Rattle.rl_base.specs.declared.span.Span.{Span}
-use Rattle.rl_builder.specs.Builder.{State, innermost, pushed_under, with_temporary}
+use Rattle.rl_builder.specs.Builder.{innermost, pushed_under, with_temporary}
 use Rattle.rl_builder.specs.Temporaries.{temporary, unordered, with_value}
 use Rattle.rl_hir.specs.Pairs.{identifier_of}
-use Rattle.rl_hir.specs.Pieces.{Piece}
 use Rattle.rl_hir.specs.declared.function.Pair.{Pair}
 use Rattle.rl_hir.specs.declared.instruction.Instruction.{Instruction}
 use Rattle.rl_hir.specs.declared.instruction.InstructionKind.TheVariants as kinds
-use Rattle.rl_hir.specs.declared.instruction.InstructionValue.{InstructionValue}
 use Rattle.rl_hir.specs.declared.instruction.InstructionValue.TheVariants as values
 use Rattle.rl_hir.specs.declared.instruction.NonLocalBinding.{NonLocalBinding}
-use Rattle.rl_hir.specs.declared.instruction.Place.{Place}
+use Rattle.rl_lowered.proofs.Common.{At, BlockId, End, InstructionValue, Names, Node, Piece, Pieces, Place, Said, Span, State, SymbolId}
+use Rattle.rl_lowered.proofs.Common.{Syntax, Then}
 use Rattle.rl_lowered.proofs.Forms.{identifiers_in, key_by, load_acts, store_acts}
 use Rattle.rl_lowered.proofs.Meant.{member_means}
 use Rattle.rl_lowered.proofs.Refusals.{applied_plain}
@@ -38,7 +34,6 @@ use Rattle.rl_model.specs.Expressions.{assign_to, assignment, compound, eval, fi
 use Rattle.rl_model.specs.Expressions.{write, write_property}
 use Rattle.rl_model.specs.Scene.{Scene}
 use Rattle.rl_model.specs.Shapes.{is_logical, operator_in}
-use Rattle.rl_names.specs.Names.{Names}
 use Rattle.rl_names.specs.declared.names.Meaning.{Meaning}
 use Rattle.rl_names.specs.declared.names.Meaning.TheVariants.{Local, Outer}
 use Rattle.rl_promises.specs.Rows.{refusals_in}
@@ -52,10 +47,8 @@ use Rattle.rl_runs.proofs.Variables.{looked_up_last}
 use Rattle.rl_runs.specs.Continuations.{between}
 use Rattle.rl_runs.specs.Facts.{Extends}
 use Rattle.rl_runs.specs.Simulation.{RunsAll, RunsExpression, RunsOver}
-use Rattle.rl_syntax.specs.declared.numbered.At.{At}
 use Rattle.rl_syntax.specs.declared.word.Word.{Word}
 use Rattle.rl_syntax.specs.declared.word.Word.TheVariants as word
-use Rattle.rl_syntax.specs.Syntax.{Syntax, Node, Said, Pieces, End, Then}
 
 -- Meanings.
 

@@ -1,25 +1,21 @@
 -- Moves of the lowering preserve the blocks.
 use Rattle.std.proofs.Common.{◌≡◌, ℕ, ◌+◌, ◌<◌, inl, inr, Option, Some, None, refl, arith}
-use Rattle.rl_base.specs.declared.diagnostic.Diagnostic.{Diagnostic}
-use Rattle.rl_base.specs.declared.ids.SymbolId.{SymbolId}
 use Rattle.rl_base.specs.declared.operator.BinaryOperator.{BinaryOperator}
 use Rattle.rl_base.specs.declared.operator.UpdateOperator.{UpdateOperator}
 use Rattle.rl_base.specs.declared.row.Row.TheVariants as row
-use Rattle.rl_base.specs.declared.span.Span.{Span}
 use Rattle.rl_base.specs.declared.type_kind.TypeKind.{TypeKind}
 use Rattle.rl_base.specs.declared.type_kind.TypeKind.TheVariants as types
 use Rattle.rl_base.specs.declared.variable_kind.VariableKind.{VariableKind}
 use Rattle.rl_base.specs.declared.variable_kind.VariableKind.TheVariants as kinds
 use Rattle.rl_base.specs.Diagnostics.{diagnostic_at}
-use Rattle.rl_builder.specs.Builder.{State, completed_by, ended_by, new_block, recorded, reserved}
+use Rattle.rl_builder.specs.Builder.{completed_by, ended_by, new_block, recorded, reserved}
 use Rattle.rl_builder.specs.Temporaries.{temporary, with_value}
 use Rattle.rl_hir.specs.declared.function.BlockKind.{BlockKind}
-use Rattle.rl_hir.specs.declared.instruction.InstructionValue.{InstructionValue}
 use Rattle.rl_hir.specs.declared.instruction.InstructionValue.TheVariants as values
-use Rattle.rl_hir.specs.declared.instruction.Place.{Place}
 use Rattle.rl_hir.specs.declared.instruction.PrimitiveValue.TheVariants as primitives
 use Rattle.rl_hir.specs.declared.terminal.ReturnVariant.{ReturnVariant}
 use Rattle.rl_hir.specs.declared.terminal.Terminal.{Terminal}
+use Rattle.rl_lowered.proofs.Common.{Diagnostic, InstructionValue, Names, Place, Span, State, SymbolId}
 use Rattle.rl_lowered.proofs.ItemBlocks.{blocks_found}
 use Rattle.rl_lowered.specs.Forms.{MemberKey, load_of, store_of, typed}
 use Rattle.rl_lowered.specs.Items.{variable_at}
@@ -27,7 +23,6 @@ use Rattle.rl_lowered.specs.Lowered.{assigned_to, declaring, member_assigned}
 use Rattle.rl_lowered.specs.Lowered.{member_computed, member_loaded, member_one, member_stored, member_updated, name_computed}
 use Rattle.rl_lowered.specs.Lowered.{name_reloaded, name_stored}
 use Rattle.rl_lowered.specs.Named.{IsFound, found}
-use Rattle.rl_names.specs.Names.{Names}
 use Rattle.rl_promises.specs.Rows.{refusal}
 use Rattle.rl_runs.proofs.BlockIds.{free_fresh, free_then, ids_counted, ids_ended, ids_then}
 use Rattle.rl_runs.proofs.Moves.{contained_before, extends_completed, extends_reserved, extends_then}

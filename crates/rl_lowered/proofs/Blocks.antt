@@ -1,9 +1,7 @@
 -- The lowering preserves the blocks.
 use Rattle.std.proofs.Common.{ℕ, List, ◌∷◌, Some, None}
-use Rattle.rl_base.specs.declared.ids.SymbolId.{SymbolId}
 use Rattle.rl_base.specs.declared.row.Row.TheVariants as row
-use Rattle.rl_base.specs.declared.span.Span.{Span}
-use Rattle.rl_builder.specs.Builder.{State, recorded}
+use Rattle.rl_builder.specs.Builder.{recorded}
 use Rattle.rl_builder.specs.Temporaries.{temporary, with_value}
 use Rattle.rl_frames.proofs.EnumerationBlocks.{forin_blocks}
 use Rattle.rl_frames.proofs.ForBlocks.{for_blocks, for_blocks_plain}
@@ -22,6 +20,7 @@ use Rattle.rl_hir.specs.declared.terminal.Case.{Case}
 use Rattle.rl_hir.specs.declared.terminal.GotoVariant.TheVariants as gotos
 use Rattle.rl_hir.specs.declared.terminal.ReturnVariant.TheVariants as returns
 use Rattle.rl_lowered.proofs.Catches.{blocks_promoted, blocks_throwing, stores_caught}
+use Rattle.rl_lowered.proofs.Common.{Names, Pieces, Span, State, SymbolId, Syntax}
 use Rattle.rl_lowered.specs.Items.{caught, promoted}
 use Rattle.rl_lowered.specs.Lowered.{LoweredBody, LoweredCases, LoweredInit}
 use Rattle.rl_lowered.specs.Lowered.{LoweredLoop, LoweredStatement}
@@ -31,13 +30,12 @@ use Rattle.rl_lowered.specs.Lowered.{part_span, throwing}
 use Rattle.rl_lowered.specs.Lowered as lowered
 use Rattle.rl_lowered.specs.Named.{IsFound}
 use Rattle.rl_model.specs.Actions.{Label}
-use Rattle.rl_names.specs.Names.{Names}
 use Rattle.rl_promises.specs.Rows.{refusal}
 use Rattle.rl_runs.proofs.Preserving.{blocks_broken, blocks_continued, blocks_recorded, blocks_refl, blocks_returned}
 use Rattle.rl_runs.proofs.Preserving.{blocks_then, blocks_threw, blocks_value}
 use Rattle.rl_runs.specs.Blocks.{PreservesBlocks}
 use Rattle.rl_runs.specs.Moves.{block_id}
-use Rattle.rl_syntax.specs.Syntax.{Pieces, Syntax, span_of}
+use Rattle.rl_syntax.specs.Syntax.{span_of}
 pub use Rattle.rl_lowered.proofs.BlockMoves.{blocks_assigned, blocks_cast, blocks_constant, blocks_declaring, blocks_found_value}
 pub use Rattle.rl_lowered.proofs.BlockMoves.{blocks_member, blocks_noted_value, blocks_reloaded, blocks_value_returned}
 pub use Rattle.rl_lowered.proofs.ExpressionBlocks.{all_blocks, bound_blocks, case_test_blocks, declarators_blocks, expression_blocks}

@@ -1,8 +1,8 @@
 -- All that is promised of parameters and of a body, from their derivations.
 use Rattle.std.proofs.Common.{◌≡◌, List, []}
-use Rattle.rl_builder.specs.Builder.{State}
 use Rattle.rl_hir.specs.declared.function.Param.{Param}
 use Rattle.rl_lowered.proofs.Blocks.{body_blocks, params_blocks}
+use Rattle.rl_lowered.proofs.Common.{Names, Pieces, State, Syntax}
 use Rattle.rl_lowered.proofs.Listing.{body_lists, params_lists}
 use Rattle.rl_lowered.proofs.Names.{body_names, params_names}
 use Rattle.rl_lowered.proofs.ParamRuns.{params_runs}
@@ -22,8 +22,6 @@ use Rattle.rl_lowered.specs.Lowered.{LoweredBody, LoweredParams}
 use Rattle.rl_lowered.specs.Named.{IsNamed}
 use Rattle.rl_lowered.specs.Promised.{LowersBody, LowersParams}
 use Rattle.rl_lowered.specs.Sound.{AreSmallTrees, IsSmallTree}
-use Rattle.rl_names.specs.Names.{Names}
-use Rattle.rl_syntax.specs.Syntax.{Pieces, Syntax}
 
 -- The names are told before the parameters.
 pub told_params : {names : Names} {es : Pieces} {rest : Syntax} {s t : State} {ps : List Param} → IsNamed names s

@@ -1,13 +1,10 @@
 -- The items of a binding pattern: the slots that take its pieces, in the two rounds of the model.
 use Rattle.std.proofs.Common.{◌≡◌, ℕ, ◌+◌, ◌++◌, ◌&&◌, Bool, true, false, true≢false, not, if◌then◌else◌, List, [], ◌∷◌, length, map}
 use Rattle.std.proofs.Common.{append_assoc, codes, Option, Some, refl, sym, ap, ◌∙◌, arith}
-use Rattle.rl_base.specs.declared.diagnostic.Diagnostic.{Diagnostic}
-use Rattle.rl_base.specs.declared.ids.SymbolId.{SymbolId}
-use Rattle.rl_base.specs.declared.span.Span.{Span}
-use Rattle.rl_builder.specs.Builder.{State}
-use Rattle.rl_hir.specs.Pieces.{Piece, operands, texts}
+use Rattle.rl_hir.specs.Pieces.{operands, texts}
 use Rattle.rl_lowered.proofs.Catches.{extends_promoted, length_promoted}
 use Rattle.rl_lowered.proofs.Clean.{first_none, second_none}
+use Rattle.rl_lowered.proofs.Common.{Diagnostic, Names, Piece, Pieces, Span, State, SymbolId, Syntax, Then}
 use Rattle.rl_lowered.proofs.ItemBlocks.{bound_stays, stays_key, stays_key_met, stays_met}
 use Rattle.rl_lowered.proofs.ItemForms.{apart_behind, early_ahead, item_ahead, item_binds, item_hole, item_key, item_refuses, item_shape}
 use Rattle.rl_lowered.proofs.ItemForms.{item_targets, lost_never}
@@ -27,13 +24,12 @@ use Rattle.rl_model.specs.Expressions.{first_piece, later_pieces}
 use Rattle.rl_model.specs.Patterns.{bind, bind_items, declare, in_turn, is_early, is_turn}
 use Rattle.rl_model.specs.Scene.{Scene}
 use Rattle.rl_model.specs.Shapes.{have_keys, is_hole, is_plain_rest, piece_shape, piece_shapes, rest_shape}
-use Rattle.rl_names.specs.Names.{Names}
 use Rattle.rl_promises.specs.Patterns.{is_ahead, said_of_key}
 use Rattle.rl_promises.specs.Rows.{refusals, refusals_in_round}
 use Rattle.rl_runs.proofs.FinalNames.{nobody_fresh}
 use Rattle.rl_runs.proofs.Moves.{contained_before}
 use Rattle.rl_runs.specs.Facts.{HasSoundNames, IsContainedIn, Nobody}
-use Rattle.rl_syntax.specs.Syntax.{Syntax, Pieces, Then, span_of}
+use Rattle.rl_syntax.specs.Syntax.{span_of}
 
 -- No refusals of the parts that were left.
 abbrev pub AreClean : (refuses : Syntax → List Diagnostic) → List Later → Type 0

@@ -1,13 +1,9 @@
 -- A relation that each move of the lowering keeps holds between the states in front of a lowered part and behind it.
 use Rattle.std.proofs.Common.{◌≡◌, ℕ, Bool, true, false, if◌then◌else◌, List, Option, Some, None, refl, sym, ap, ◌∙◌}
 use Rattle.rl_base.specs.Diagnostics.{diagnostic_at}
-use Rattle.rl_base.specs.declared.diagnostic.Diagnostic.{Diagnostic}
-use Rattle.rl_base.specs.declared.ids.BlockId.{BlockId}
-use Rattle.rl_base.specs.declared.ids.SymbolId.{SymbolId}
 use Rattle.rl_base.specs.declared.row.Row.TheVariants as row
-use Rattle.rl_base.specs.declared.span.Span.{Span}
 use Rattle.rl_base.specs.declared.variable_kind.VariableKind.{VariableKind}
-use Rattle.rl_builder.specs.Builder.{State, completed_by, new_block, recorded, reserved}
+use Rattle.rl_builder.specs.Builder.{completed_by, new_block, recorded, reserved}
 use Rattle.rl_builder.specs.Builder.{with_temporary}
 use Rattle.rl_builder.specs.Temporaries.{temporary, with_value}
 use Rattle.rl_frames.specs.Frames.{ForParts, IfParts, LogicalParts, TernaryParts, TryParts, do_while_bodied, for_after}
@@ -22,20 +18,19 @@ use Rattle.rl_frames.specs.Rounds.{ForOfParts, RoundsParts, forin_at, forin_head
 use Rattle.rl_frames.specs.Rounds.{forof_ended, forof_headed, forof_iterator, forof_righted, forof_shut, forof_tested, rounds_bodied}
 use Rattle.rl_frames.specs.Rounds.{rounds_ended, rounds_opened, rounds_shut}
 use Rattle.rl_frames.specs.SwitchParts.{case_begun, case_ended, fall_of, switch_begun, switch_finished}
-use Rattle.rl_hir.specs.Pieces.{Piece}
 use Rattle.rl_hir.specs.declared.function.BlockKind.TheVariants as blocks
 use Rattle.rl_hir.specs.declared.function.Param.{Param}
 use Rattle.rl_hir.specs.declared.instruction.InstructionKind.TheVariants as variables
 use Rattle.rl_hir.specs.declared.instruction.InstructionKind.{InstructionKind}
 use Rattle.rl_hir.specs.declared.instruction.InstructionValue.TheVariants as values
-use Rattle.rl_hir.specs.declared.instruction.InstructionValue.{InstructionValue}
-use Rattle.rl_hir.specs.declared.instruction.Place.{Place}
 use Rattle.rl_hir.specs.declared.instruction.PrimitiveValue.TheVariants as primitives
 use Rattle.rl_hir.specs.declared.terminal.Case.{Case}
 use Rattle.rl_hir.specs.declared.terminal.GotoVariant.TheVariants as gotos
 use Rattle.rl_hir.specs.declared.terminal.ReturnVariant.TheVariants as returns
 use Rattle.rl_lowered.proofs.Carrying.{IsCarried, at_symbol, unchanged}
 use Rattle.rl_lowered.proofs.Catches.{stores_caught}
+use Rattle.rl_lowered.proofs.Common.{At, BlockId, Diagnostic, InstructionValue, Names, Node, Piece, Pieces, Place, Span, State, SymbolId}
+use Rattle.rl_lowered.proofs.Common.{Syntax}
 use Rattle.rl_lowered.proofs.ItemCarried.{again_span, ahead_carried, ahead_span, bound_carried, carried_met, joined_again, left_span}
 use Rattle.rl_lowered.proofs.ItemCarried.{left_spans}
 use Rattle.rl_lowered.proofs.ItemCarried.{pattern_spans, same_again, taken_carried}
@@ -51,7 +46,6 @@ use Rattle.rl_lowered.specs.Lowered.{kind_of, part_span}
 use Rattle.rl_lowered.specs.Lowered.{LoweredFront, LoweredLink, LoweredSpine, private_met, throwing, value_span}
 use Rattle.rl_lowered.specs.Named.{found}
 use Rattle.rl_model.specs.Actions.{Label}
-use Rattle.rl_names.specs.Names.{Names}
 use Rattle.rl_optional_frames.specs.Frames.{default_at, default_ended}
 use Rattle.rl_optional_frames.specs.Frames.{link_at, link_objected}
 use Rattle.rl_promises.specs.Moved.{type_name}
@@ -61,8 +55,7 @@ use Rattle.rl_promises.specs.Rebound.{span_in}
 use Rattle.rl_promises.specs.Rebound.{is_symbol, span_at_head, span_behind, span_behind_all, span_behind_body, span_behind_cases}
 use Rattle.rl_promises.specs.Rows.{refusal, row_of_head}
 use Rattle.rl_runs.specs.Moves.{next_hole, return_of, returned_from, threw_from}
-use Rattle.rl_syntax.specs.Syntax.{Node, Pieces, Syntax, span_of}
-use Rattle.rl_syntax.specs.declared.numbered.At.{At}
+use Rattle.rl_syntax.specs.Syntax.{span_of}
 use Rattle.rl_syntax.specs.declared.word.Word.TheVariants as word
 use Rattle.rl_syntax.specs.declared.word.Word.{Word}
 pub use Rattle.rl_lowered.proofs.CarriedMoves.{carried_catch_begun, carried_declaring, carried_default, carried_forin_righted}

@@ -1,18 +1,14 @@
 -- A relation that each move of the lowering keeps holds between the states that frames and values leave.
 use Rattle.std.proofs.Common.{ℕ, Bool, Option, Some, None, refl, ◌+◌}
 use Rattle.rl_base.specs.Diagnostics.{diagnostic_at}
-use Rattle.rl_base.specs.declared.diagnostic.Diagnostic.{Diagnostic}
-use Rattle.rl_base.specs.declared.ids.BlockId.{BlockId}
-use Rattle.rl_base.specs.declared.ids.SymbolId.{SymbolId}
 use Rattle.rl_base.specs.declared.operator.BinaryOperator.TheVariants as operator
 use Rattle.rl_base.specs.declared.operator.UpdateOperator.{UpdateOperator}
 use Rattle.rl_base.specs.declared.row.Row.TheVariants as row
-use Rattle.rl_base.specs.declared.span.Span.{Span}
 use Rattle.rl_base.specs.declared.type_kind.TypeKind.TheVariants as types
 use Rattle.rl_base.specs.declared.type_kind.TypeKind.{TypeKind}
 use Rattle.rl_base.specs.declared.variable_kind.VariableKind.TheVariants as kinds
 use Rattle.rl_base.specs.declared.variable_kind.VariableKind.{VariableKind}
-use Rattle.rl_builder.specs.Builder.{State, entered, innermost, new_block, pushed, pushed_under, recorded, reserved}
+use Rattle.rl_builder.specs.Builder.{entered, innermost, new_block, pushed, pushed_under, recorded, reserved}
 use Rattle.rl_builder.specs.Builder.{with_temporary}
 use Rattle.rl_builder.specs.Temporaries.{temporary, unordered, with_value}
 use Rattle.rl_frames.specs.Frames.{LogicalParts, SequenceParts, TernaryParts}
@@ -27,18 +23,16 @@ use Rattle.rl_hir.specs.declared.function.BlockKind.TheVariants as blocks
 use Rattle.rl_hir.specs.declared.instruction.Instruction.{Instruction}
 use Rattle.rl_hir.specs.declared.instruction.InstructionKind.TheVariants as variables
 use Rattle.rl_hir.specs.declared.instruction.InstructionValue.TheVariants as values
-use Rattle.rl_hir.specs.declared.instruction.InstructionValue.{InstructionValue}
-use Rattle.rl_hir.specs.declared.instruction.Place.{Place}
 use Rattle.rl_hir.specs.declared.instruction.PrimitiveValue.TheVariants as primitives
 use Rattle.rl_lowered.proofs.Carrying.{IsCarried, unchanged}
 use Rattle.rl_lowered.proofs.Catches.{catch_declared, declares_caught}
+use Rattle.rl_lowered.proofs.Common.{BlockId, Diagnostic, InstructionValue, Names, Place, Span, State, SymbolId}
 use Rattle.rl_lowered.specs.Forms.{MemberKey, load_of, store_of, typed}
 use Rattle.rl_lowered.specs.Items.{promoted}
 use Rattle.rl_lowered.specs.Lowered.{catch_begun, declaring}
 use Rattle.rl_lowered.specs.Lowered.{member_loaded, member_one, member_stored, member_updated}
 use Rattle.rl_lowered.specs.Lowered.{throwing, throwing_under}
 use Rattle.rl_lowered.specs.Named.{IsFound, found}
-use Rattle.rl_names.specs.Names.{Names}
 use Rattle.rl_optional_frames.specs.Frames.{default_at, default_ended, default_tested}
 use Rattle.rl_optional_frames.specs.Frames.{LinkParts, link_after, link_at, link_ended, link_objected}
 use Rattle.rl_optional_frames.specs.Parts.{compared, default_begun, default_given, link_opened, undefined_made}

@@ -1,9 +1,6 @@
 -- A relation that each move of the lowering keeps: what it takes to be one.
 use Rattle.std.proofs.Common.{◌≡◌, ℕ, nat_eq, Bool, if◌then◌else◌, List, Option}
-use Rattle.rl_base.specs.declared.diagnostic.Diagnostic.{Diagnostic}
-use Rattle.rl_base.specs.declared.ids.SymbolId.{SymbolId}
-use Rattle.rl_base.specs.declared.span.Span.{Span}
-use Rattle.rl_builder.specs.Builder.{State, recorded}
+use Rattle.rl_builder.specs.Builder.{recorded}
 use Rattle.rl_builder.specs.Builder.{with_temporary}
 use Rattle.rl_builder.specs.Temporaries.{temporary}
 use Rattle.rl_context.specs.declared.site.Site.{Site}
@@ -11,9 +8,9 @@ use Rattle.rl_hir.specs.declared.function.Identifier.{Identifier}
 use Rattle.rl_hir.specs.declared.function.InnerFunction.{InnerFunction}
 use Rattle.rl_hir.specs.declared.function.Pair.{Pair}
 use Rattle.rl_hir.specs.declared.function.ReactFunctionType.{ReactFunctionType}
+use Rattle.rl_lowered.proofs.Common.{Diagnostic, Names, Span, State, SymbolId}
 use Rattle.rl_lowered.specs.Items.{found_again, promoted}
 use Rattle.rl_lowered.specs.Named.{IsFound, found}
-use Rattle.rl_names.specs.Names.{Names}
 use Rattle.rl_semantic.specs.declared.semantic.Semantic.{Semantic}
 use Rattle.rl_used_names.specs.UsedName.{UsedName}
 

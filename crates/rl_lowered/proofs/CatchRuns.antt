@@ -2,10 +2,7 @@
 use Rattle.std.proofs.Common.{◌≡◌, ℕ, ◌<◌, ◌++◌, true, false, List, [], length, is_some, Option, Some, None, refl, sym, ap, ◌∙◌}
 use Rattle.std.proofs.Common.{subst, arith, codes, inl, inr}
 use Rattle.std.specs.Fmt.{decimal}
-use Rattle.rl_base.specs.declared.ids.BlockId.{BlockId}
-use Rattle.rl_base.specs.declared.ids.SymbolId.{SymbolId}
-use Rattle.rl_base.specs.declared.span.Span.{Span}
-use Rattle.rl_builder.specs.Builder.{State, innermost, pushed_under, reserved, with_temporary}
+use Rattle.rl_builder.specs.Builder.{innermost, pushed_under, reserved, with_temporary}
 use Rattle.rl_builder.specs.Temporaries.{temporary, unordered}
 use Rattle.rl_frames.proofs.SwitchMeant.{CaseParts, case_meanings, case_pieces, test_meaning}
 use Rattle.rl_frames.specs.SwitchCases.{RunsCases, RunsTest}
@@ -14,10 +11,10 @@ use Rattle.rl_hir.specs.declared.function.IdentifierName.{IdentifierName}
 use Rattle.rl_hir.specs.declared.function.IdentifierName.TheVariants as identifiers
 use Rattle.rl_hir.specs.declared.instruction.Instruction.{Instruction}
 use Rattle.rl_hir.specs.declared.instruction.InstructionKind.TheVariants as kinds
-use Rattle.rl_hir.specs.declared.instruction.Place.{Place}
 use Rattle.rl_hir.specs.declared.terminal.Case.{Case}
 use Rattle.rl_lowered.proofs.Catches.{declares_caught, length_promoted}
 use Rattle.rl_lowered.proofs.Clean.{moved_never}
+use Rattle.rl_lowered.proofs.Common.{At, BlockId, End, Names, Node, Pieces, Place, Said, Span, State, SymbolId, Syntax, Then}
 use Rattle.rl_lowered.proofs.TargetMoves.{variable_pattern}
 use Rattle.rl_lowered.proofs.Plain.{is_operand, lowered_plain}
 use Rattle.rl_lowered.proofs.Runs.{expression_runs}
@@ -33,7 +30,6 @@ use Rattle.rl_model.specs.Expressions.{eval}
 use Rattle.rl_model.specs.Patterns.{bind, declare}
 use Rattle.rl_model.specs.Scene.{Scene}
 use Rattle.rl_model.specs.Statements.{exec}
-use Rattle.rl_names.specs.Names.{Names}
 use Rattle.rl_promises.specs.Moved.{said_of_moved}
 use Rattle.rl_promises.specs.Rows.{refusals}
 use Rattle.rl_runs.proofs.Holes.{same_jumps, same_throws, use_statement}
@@ -42,9 +38,8 @@ use Rattle.rl_runs.proofs.Steps.{since_start, since_then, throws_then}
 use Rattle.rl_runs.specs.Continuations.{Since, between}
 use Rattle.rl_runs.specs.Facts.{Extends, HasSoundNames, IsContainedIn, Nobody}
 use Rattle.rl_runs.specs.Simulation.{RunsHandler, RunsPattern, RunsStatement}
-use Rattle.rl_syntax.specs.declared.numbered.At.{At}
 use Rattle.rl_syntax.specs.declared.word.Word.TheVariants as word
-use Rattle.rl_syntax.specs.Syntax.{Absent, End, Node, Pieces, Said, Syntax, Then}
+use Rattle.rl_syntax.specs.Syntax.{Absent}
 use Rattle.rl_used_names.proofs.NameLaws.{name_of-append, name_of-last}
 use Rattle.rl_used_names.specs.IdentifierNames.{name_of}
 

@@ -1,13 +1,11 @@
 -- The states in front of a `throw`, and in front of the handler of a `try` statement whose parameter is a variable.
 use Rattle.std.proofs.Common.{◌≡◌, ℕ, ◌+◌, ◌≤◌, inl, inr, ◌∷◌, [], Option, Some, None, length, length-append, refl, arith}
-use Rattle.rl_base.specs.declared.ids.BlockId.{BlockId}
 use Rattle.rl_base.specs.declared.row.Row.TheVariants as row
-use Rattle.rl_base.specs.declared.span.Span.{Span}
-use Rattle.rl_builder.specs.Builder.{State, innermost, reserved}
+use Rattle.rl_builder.specs.Builder.{innermost, reserved}
 use Rattle.rl_builder.specs.Temporaries.{with_value}
 use Rattle.rl_hir.specs.declared.instruction.InstructionKind.TheVariants as kinds
-use Rattle.rl_hir.specs.declared.instruction.InstructionValue.{InstructionValue}
 use Rattle.rl_hir.specs.declared.instruction.InstructionValue.TheVariants as values
+use Rattle.rl_lowered.proofs.Common.{BlockId, InstructionValue, Span, State}
 use Rattle.rl_lowered.specs.Items.{caught, promoted, promoted_identifier}
 use Rattle.rl_lowered.specs.Lowered.{throwing, throwing_under}
 use Rattle.rl_promises.specs.Rows.{refusal}

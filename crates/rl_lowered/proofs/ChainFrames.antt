@@ -1,14 +1,11 @@
 -- Links of optional chains as frames, inside a chain or around it: their blocks, and that they complete.
 use Rattle.std.proofs.Common.{◌≡◌, ℕ, ◌+◌, ◌++◌, Bool, true, List, Option, Some, None, refl, arith}
-use Rattle.rl_base.specs.declared.ids.BlockId.{BlockId}
-use Rattle.rl_base.specs.declared.span.Span.{Span}
-use Rattle.rl_builder.specs.Builder.{State}
 use Rattle.rl_builder.specs.Temporaries.{temporary}
 use Rattle.rl_frames.specs.Parts.{chain_begun, chain_reserved, link_object}
 use Rattle.rl_hir.specs.declared.instruction.Instruction.{Instruction}
 use Rattle.rl_hir.specs.declared.instruction.InstructionKind.TheVariants as variables
 use Rattle.rl_hir.specs.declared.instruction.InstructionValue.TheVariants as values
-use Rattle.rl_hir.specs.declared.instruction.Place.{Place}
+use Rattle.rl_lowered.proofs.Common.{BlockId, Place, Span, State}
 use Rattle.rl_optional_frames.proofs.LinkBlocks.{link_blocks, link_extends}
 use Rattle.rl_optional_frames.proofs.LinkStarts.{early_below, early_extends, inner_starts, outer_starts}
 use Rattle.rl_optional_frames.proofs.Lives.{link_lives}

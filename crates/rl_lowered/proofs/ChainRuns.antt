@@ -2,17 +2,14 @@
 use Rattle.std.proofs.Common.{◌≡◌, ℕ, ◌++◌, ◌&&◌, Bool, true, false, if◌then◌else◌, List, [], ◌∷◌, All, length, map, codes, Option, Some}
 use Rattle.std.proofs.Common.{None, true≢false, refl, sym, ap, ◌∙◌, subst}
 use Rattle.std.proofs.lemmas.List.Elements.{All-cons, All-head, All-nil, All-tail}
-use Rattle.rl_base.specs.declared.ids.BlockId.{BlockId}
-use Rattle.rl_base.specs.declared.span.Span.{Span}
-use Rattle.rl_builder.specs.Builder.{State}
 use Rattle.rl_builder.specs.Temporaries.{temporary, with_value}
-use Rattle.rl_hir.specs.declared.instruction.Place.{Place}
 use Rattle.rl_hir.specs.declared.instruction.PlaceOrSpread.{PlaceOrSpread}
 use Rattle.rl_hir.specs.declared.instruction.PropertyLiteral.TheVariants as keys
-use Rattle.rl_hir.specs.Pieces.{Piece, argument_pieces, gathered, texts}
+use Rattle.rl_hir.specs.Pieces.{argument_pieces, gathered, texts}
 use Rattle.rl_lowered.proofs.ChainFrames.{linked_state}
 use Rattle.rl_lowered.proofs.Clean.{first_none}
 use Rattle.rl_lowered.proofs.CleanChains.{broken_never, private_link_never}
+use Rattle.rl_lowered.proofs.Common.{At, BlockId, End, Names, Node, Piece, Pieces, Place, Said, Span, State, Syntax, Then}
 use Rattle.rl_lowered.proofs.Forms.{given_values, identifiers_in, key_by}
 use Rattle.rl_lowered.proofs.Meant.{computed_there, unlinked}
 use Rattle.rl_lowered.proofs.Plain.{lowered_plain, one_part}
@@ -32,7 +29,6 @@ use Rattle.rl_model.specs.Events.{Key, event, fixed_key, load}
 use Rattle.rl_model.specs.Expressions.{call_kind, called, callee, eval, first_piece, key_in, later_pieces, one_value, values as values_in}
 use Rattle.rl_model.specs.Scene.{Scene}
 use Rattle.rl_model.specs.Shapes.{is_link, lends as lends_any, lends_receiver, shapes}
-use Rattle.rl_names.specs.Names.{Names}
 use Rattle.rl_optional_frames.proofs.Composes.{link_composes}
 use Rattle.rl_optional_frames.proofs.LinkValues.{parts_all}
 use Rattle.rl_optional_frames.proofs.Meant.{call_meant, index_meant, lent_index_meant, lent_member_meant, member_meant}
@@ -51,10 +47,9 @@ use Rattle.rl_runs.specs.Blocks.{PreservesBlocks}
 use Rattle.rl_runs.specs.Continuations.{TracesFrom}
 use Rattle.rl_runs.specs.Facts.{Extends}
 use Rattle.rl_runs.specs.Simulation.{RunsAll, RunsExpression, RunsLinks}
-use Rattle.rl_syntax.specs.declared.numbered.At.{At}
 use Rattle.rl_syntax.specs.declared.word.Word.{Word}
 use Rattle.rl_syntax.specs.declared.word.Word.TheVariants as word
-use Rattle.rl_syntax.specs.Syntax.{Syntax, Node, Listed, Said, Flag, Pieces, End, Then}
+use Rattle.rl_syntax.specs.Syntax.{Listed, Flag}
 use Rattle.rl_text.specs.Numeral.{number_of}
 
 -- The values that stand in front of a link.

@@ -1,18 +1,14 @@
 -- Nodes without refusals: their parts have none, and a kind that is refused is none of them.
 use Rattle.std.proofs.Common.{◌≡◌, ℕ, ◌++◌, Bool, true, false, if◌then◌else◌, List, [], ◌∷◌, Some, codes, refl, sym, ap, ◌∙◌}
-use Rattle.rl_base.specs.declared.diagnostic.Diagnostic.{Diagnostic}
-use Rattle.rl_base.specs.declared.ids.SymbolId.{SymbolId}
 use Rattle.rl_base.specs.declared.operator.AssignmentOperator.{AssignmentOperator}
 use Rattle.rl_base.specs.declared.operator.BinaryOperator.{BinaryOperator}
 use Rattle.rl_base.specs.declared.row.Row.{Row}
 use Rattle.rl_base.specs.declared.row.Row.TheVariants as row
-use Rattle.rl_base.specs.declared.span.Span.{Span}
 use Rattle.rl_base.specs.Diagnostics.{diagnostic_at}
 use Rattle.rl_base.specs.Operators.{assignment_text}
-use Rattle.rl_hir.specs.declared.instruction.InstructionValue.{InstructionValue}
 use Rattle.rl_hir.specs.declared.instruction.NonLocalBinding.{NonLocalBinding}
-use Rattle.rl_hir.specs.declared.instruction.Place.{Place}
-use Rattle.rl_hir.specs.Pieces.{Piece}
+use Rattle.rl_lowered.proofs.Common.{At, Diagnostic, End, InstructionValue, Names, Node, Piece, Pieces, Place, Said, Span, SymbolId, Syntax}
+use Rattle.rl_lowered.proofs.Common.{Then}
 use Rattle.rl_lowered.proofs.Refusals.{assigned_pattern_refuses, assigned_refuses}
 use Rattle.rl_lowered.proofs.Refusals.{assigned_member_refuses, cast_refuses, compound_member_refuses, compound_refuses, computed_refuses}
 use Rattle.rl_lowered.proofs.Refusals.{constant_refuses, form_refuses, fraction_refuses, lost_head_refuses, member_head_refuses}
@@ -21,7 +17,6 @@ use Rattle.rl_lowered.proofs.Refusals.{refusing_refuses, stored_head_refuses, un
 use Rattle.rl_lowered.specs.Forms.{IsCast, IsForm, IsMember, IsPrivate, IsRefused, IsRefusing, IsWrapper, MemberKey, applied_by}
 use Rattle.rl_model.specs.Shapes.{is_absent, key_text}
 use Rattle.rl_names.specs.declared.names.Meaning.TheVariants.{Local, Outer}
-use Rattle.rl_names.specs.Names.{Names}
 use Rattle.rl_promises.proofs.Covering.{none_in}
 use Rattle.rl_promises.specs.Moved.{may_move, said_of_moved, type_name}
 use Rattle.rl_promises.specs.Outs.{is_known_key, is_lost_head}
@@ -30,10 +25,9 @@ use Rattle.rl_promises.specs.Rows.{refusals_to}
 use Rattle.rl_promises.specs.Rows.{is_eval, label_of, refusal, refusals, refusals_among, refusals_at, refusals_at_head, refusals_below}
 use Rattle.rl_promises.specs.Rows.{refusals_in, refusals_in_cases, said_of_assigned, said_of_finalizer, said_of_init, said_of_local}
 use Rattle.rl_promises.specs.Rows.{said_of_test, said_of_throw, said_of_updated}
-use Rattle.rl_syntax.specs.declared.numbered.At.{At}
 use Rattle.rl_syntax.specs.declared.word.Word.{Word}
 use Rattle.rl_syntax.specs.declared.word.Word.TheVariants as word
-use Rattle.rl_syntax.specs.Syntax.{Absent, End, Flag, Listed, Node, Pieces, Said, Syntax, Then}
+use Rattle.rl_syntax.specs.Syntax.{Absent, Flag, Listed}
 use Rattle.rl_text.specs.Numeral.{is_numeral}
 
 -- Two lists without an element together.

@@ -1,20 +1,16 @@
 -- Optional chains without refusals: their links have none.
 use Rattle.std.proofs.Common.{◌≡◌, ◌++◌, Bool, true, false, if◌then◌else◌, List, [], ◌∷◌, refl, sym, ap, ◌∙◌}
-use Rattle.rl_base.specs.declared.diagnostic.Diagnostic.{Diagnostic}
 use Rattle.rl_base.specs.declared.row.Row.TheVariants as row
-use Rattle.rl_hir.specs.declared.instruction.Place.{Place}
-use Rattle.rl_hir.specs.Pieces.{Piece}
 use Rattle.rl_lowered.proofs.Clean.{first_none, form_clean, never, second_none}
+use Rattle.rl_lowered.proofs.Common.{At, Diagnostic, End, Names, Node, Piece, Pieces, Place, Said, Syntax, Then}
 use Rattle.rl_lowered.specs.Forms.{IsLinkKey, IsMember, LinkIndexed, LinkNumbered, LinkStatic, Load, MemberKey}
-use Rattle.rl_names.specs.Names.{Names}
 use Rattle.rl_promises.proofs.Covering.{none_in}
 use Rattle.rl_promises.specs.Chains.{Below, Spine, Top, below_link}
 use Rattle.rl_promises.specs.Rows.{refusal, refusals, refusals_by, refusals_in}
 use Rattle.rl_rules.specs.Chains.{has_optional}
-use Rattle.rl_syntax.specs.declared.numbered.At.{At}
 use Rattle.rl_syntax.specs.declared.word.Word.{Word}
 use Rattle.rl_syntax.specs.declared.word.Word.TheVariants as word
-use Rattle.rl_syntax.specs.Syntax.{End, Flag, Listed, Node, Pieces, Said, Syntax, Then}
+use Rattle.rl_syntax.specs.Syntax.{Flag, Listed}
 
 -- The position of the outermost link of a chain: below a link of another chain, or at the top.
 abbrev pub spine_place : (below : Bool) → Spine

@@ -1,24 +1,19 @@
 -- The lowering of expressions, patterns, parameters and declarations preserves the blocks.
 use Rattle.std.proofs.Common.{Bool, true, List, Option, Some}
-use Rattle.rl_base.specs.declared.diagnostic.Diagnostic.{Diagnostic}
-use Rattle.rl_base.specs.declared.ids.BlockId.{BlockId}
 use Rattle.rl_base.specs.declared.row.Row.TheVariants as row
-use Rattle.rl_base.specs.declared.span.Span.{Span}
 use Rattle.rl_base.specs.Diagnostics.{diagnostic_at}
-use Rattle.rl_builder.specs.Builder.{State, recorded, with_temporary}
+use Rattle.rl_builder.specs.Builder.{recorded, with_temporary}
 use Rattle.rl_builder.specs.Temporaries.{temporary, with_value}
 use Rattle.rl_frames.proofs.Sequences.{sequence_blocks}
 use Rattle.rl_frames.proofs.ValueFrames.{logical_blocks, ternary_blocks}
 use Rattle.rl_hir.specs.declared.function.Param.{Param}
 use Rattle.rl_hir.specs.declared.instruction.InstructionKind.{InstructionKind}
 use Rattle.rl_hir.specs.declared.instruction.InstructionKind.TheVariants as variables
-use Rattle.rl_hir.specs.declared.instruction.InstructionValue.{InstructionValue}
 use Rattle.rl_hir.specs.declared.instruction.InstructionValue.TheVariants as values
-use Rattle.rl_hir.specs.declared.instruction.Place.{Place}
 use Rattle.rl_hir.specs.declared.instruction.PrimitiveValue.TheVariants as primitives
-use Rattle.rl_hir.specs.Pieces.{Piece}
 use Rattle.rl_lowered.proofs.ChainFrames.{BlocksTo, linked_blocks}
 use Rattle.rl_lowered.proofs.Catches.{blocks_promoted}
+use Rattle.rl_lowered.proofs.Common.{BlockId, Diagnostic, InstructionValue, Names, Piece, Pieces, Place, Span, State, Syntax}
 use Rattle.rl_lowered.proofs.ItemBlocks.{ahead_stays, blocks_found, blocks_found_again, bound_stays, stays_met, taken_stays}
 use Rattle.rl_lowered.specs.Forms.{Front, call_of, load_of, store_of, tested_front, typed}
 use Rattle.rl_lowered.specs.Items.{Later, caught, destructured, found_again, met, promoted, variable_at}
@@ -31,7 +26,6 @@ use Rattle.rl_lowered.specs.Lowered.{value_span}
 use Rattle.rl_lowered.specs.Lowered.{LoweredBound, LoweredLater, LoweredMoved, LoweredParams, LoweredPattern, LoweredTarget}
 use Rattle.rl_lowered.specs.Lowered as lowered
 use Rattle.rl_lowered.specs.Named.{found}
-use Rattle.rl_names.specs.Names.{Names}
 use Rattle.rl_optional_frames.proofs.DefaultBlocks.{default_blocks}
 use Rattle.rl_optional_frames.proofs.Reaching.{link_of_blocks}
 use Rattle.rl_optional_frames.specs.Frames.{default_at, default_ended, link_at, link_objected}
@@ -41,7 +35,7 @@ use Rattle.rl_promises.specs.Rows.{refusal, row_of_head}
 use Rattle.rl_runs.proofs.Preserving.{blocks_recorded, blocks_refl}
 use Rattle.rl_runs.proofs.Preserving.{blocks_temporary, blocks_then, blocks_value}
 use Rattle.rl_runs.specs.Blocks.{PreservesBlocks}
-use Rattle.rl_syntax.specs.Syntax.{Pieces, Syntax, span_of}
+use Rattle.rl_syntax.specs.Syntax.{span_of}
 use Rattle.rl_lowered.proofs.BlockMoves.{blocks_assigned, blocks_cast, blocks_constant, blocks_found_value, blocks_member}
 use Rattle.rl_lowered.proofs.BlockMoves.{blocks_noted_value, blocks_reloaded}
 

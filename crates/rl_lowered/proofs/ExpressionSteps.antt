@@ -1,19 +1,15 @@
 -- The lowering of expressions, patterns, parameters and declarations keeps the steps of loops apart from the blocks at which none may
 -- stand.
 use Rattle.std.proofs.Common.{◌≡◌, ℕ, ◌+◌, Bool, true, false, List, Option, Some, None, refl, arith}
-use Rattle.rl_base.specs.declared.diagnostic.Diagnostic.{Diagnostic}
-use Rattle.rl_base.specs.declared.ids.BlockId.{BlockId}
-use Rattle.rl_base.specs.declared.ids.SymbolId.{SymbolId}
 use Rattle.rl_base.specs.declared.operator.BinaryOperator.{BinaryOperator}
 use Rattle.rl_base.specs.declared.operator.UpdateOperator.{UpdateOperator}
 use Rattle.rl_base.specs.declared.row.Row.TheVariants as row
-use Rattle.rl_base.specs.declared.span.Span.{Span}
 use Rattle.rl_base.specs.declared.type_kind.TypeKind.{TypeKind}
 use Rattle.rl_base.specs.declared.type_kind.TypeKind.TheVariants as types
 use Rattle.rl_base.specs.declared.variable_kind.VariableKind.{VariableKind}
 use Rattle.rl_base.specs.declared.variable_kind.VariableKind.TheVariants as declared
 use Rattle.rl_base.specs.Diagnostics.{diagnostic_at}
-use Rattle.rl_builder.specs.Builder.{State, new_block, pushed, recorded, reserved, with_temporary, with_type}
+use Rattle.rl_builder.specs.Builder.{new_block, pushed, recorded, reserved, with_temporary, with_type}
 use Rattle.rl_builder.specs.Temporaries.{temporary, with_value}
 use Rattle.rl_frames.specs.Frames.{LogicalParts, SequenceParts, TernaryParts, aside_of}
 use Rattle.rl_frames.specs.Frames.{logical_at, logical_righted, sequence_at}
@@ -24,15 +20,13 @@ use Rattle.rl_hir.specs.declared.function.BlockKind.TheVariants as blocks
 use Rattle.rl_hir.specs.declared.function.Param.{Param}
 use Rattle.rl_hir.specs.declared.instruction.InstructionKind.{InstructionKind}
 use Rattle.rl_hir.specs.declared.instruction.InstructionKind.TheVariants as variables
-use Rattle.rl_hir.specs.declared.instruction.InstructionValue.{InstructionValue}
 use Rattle.rl_hir.specs.declared.instruction.InstructionValue.TheVariants as values
-use Rattle.rl_hir.specs.declared.instruction.Place.{Place}
 use Rattle.rl_hir.specs.declared.instruction.PlaceOrSpread.{PlaceOrSpread}
 use Rattle.rl_hir.specs.declared.instruction.PrimitiveValue.TheVariants as primitives
 use Rattle.rl_hir.specs.declared.terminal.GotoVariant.TheVariants as gotos
 use Rattle.rl_hir.specs.declared.terminal.ReturnVariant.TheVariants as returns
 use Rattle.rl_hir.specs.declared.terminal.TerminalKind.TheVariants as kinds
-use Rattle.rl_hir.specs.Pieces.{Piece}
+use Rattle.rl_lowered.proofs.Common.{BlockId, Diagnostic, InstructionValue, Names, Piece, Pieces, Place, Span, State, SymbolId, Syntax}
 use Rattle.rl_lowered.proofs.StepMoves.{apart_ended, apart_hole, apart_link, apart_next, apart_noted, apart_pushed}
 use Rattle.rl_lowered.proofs.ItemBlocks.{ahead_stays, bound_stays, stays_met, taken_stays}
 use Rattle.rl_lowered.proofs.StepMoves.{apart_default, apart_refl, apart_stays}
@@ -50,13 +44,12 @@ use Rattle.rl_lowered.specs.Lowered.{LoweredBound, LoweredLater, LoweredMoved, L
 use Rattle.rl_lowered.specs.Lowered as lowered
 use Rattle.rl_lowered.specs.Named.{found}
 use Rattle.rl_lowered.specs.Steps.{KeepsStepsApart}
-use Rattle.rl_names.specs.Names.{Names}
 use Rattle.rl_optional_frames.specs.Frames.{default_at, default_ended, link_at, link_objected}
 use Rattle.rl_promises.specs.Moved.{type_name}
 use Rattle.rl_promises.specs.Rows.{refusal, row_of_head}
 use Rattle.rl_runs.specs.Moves.{branch, ends_by, goto, last_hole, return_of, returned_from, stored_in}
 use Rattle.rl_syntax.specs.declared.word.Word.{Word}
-use Rattle.rl_syntax.specs.Syntax.{Pieces, Syntax, span_of}
+use Rattle.rl_syntax.specs.Syntax.{span_of}
 
 -- Values that are no steps.
 

@@ -2,17 +2,16 @@
 use Rattle.std.proofs.Common.{◌≡◌, ℕ, ◌++◌, Option, Some, None, List, [], ◌∷◌, map, refl, ap, ◌∙◌}
 use Rattle.rl_hir.specs.declared.instruction.ArrayElement.{ArrayElement}
 use Rattle.rl_hir.specs.declared.instruction.ArrayElement.TheVariants as elements
-use Rattle.rl_hir.specs.declared.instruction.InstructionValue.{InstructionValue}
 use Rattle.rl_hir.specs.declared.instruction.InstructionValue.TheVariants as values
-use Rattle.rl_hir.specs.declared.instruction.Place.{Place}
 use Rattle.rl_hir.specs.declared.instruction.PlaceOrSpread.{PlaceOrSpread}
 use Rattle.rl_hir.specs.declared.instruction.PlaceOrSpread.TheVariants as arguments
 use Rattle.rl_hir.specs.declared.instruction.TemplateQuasi.{TemplateQuasi}
 use Rattle.rl_hir.specs.declared.instruction.ObjectProperty.{ObjectProperty}
 use Rattle.rl_hir.specs.declared.instruction.ObjectProperty.TheVariants as properties
-use Rattle.rl_hir.specs.Pieces.{Piece, Operand, Says, argument_pieces, element_pieces, gathered, operands, cooked_piece}
+use Rattle.rl_hir.specs.Pieces.{Operand, Says, argument_pieces, element_pieces, gathered, operands, cooked_piece}
 use Rattle.rl_hir.specs.Pieces.{property_pieces, quasi_pieces, texts, value_pieces}
 use Rattle.rl_hir.specs.Values.{Form, Silent, Asks as Asking, Assigns, form_of}
+use Rattle.rl_lowered.proofs.Common.{InstructionValue, Piece, Pieces, Place}
 use Rattle.rl_lowered.specs.Forms.{AreQuasis, NoQuasi, NextQuasi, NextUncooked, IsForm, IsMember, places_in}
 use Rattle.rl_lowered.specs.Forms.{Array, Call, Delete, Load, New, Static, Tagged, Template}
 use Rattle.rl_lowered.specs.Forms.{MemberKey, Fixed, Computed, delete_of, load_of, store_of}
@@ -24,7 +23,6 @@ use Rattle.rl_model.specs.Events.{Key as EventKey, computed_key, delete, event, 
 use Rattle.rl_model.specs.Expressions.{first_piece, later_pieces}
 use Rattle.rl_model.specs.Shapes.{quasis}
 use Rattle.rl_syntax.specs.declared.word.Word.{Word}
-use Rattle.rl_syntax.specs.Syntax.{Pieces}
 
 abbrev pub pieces_in : Form → List Piece
 pieces_in (Silent word fields) = []

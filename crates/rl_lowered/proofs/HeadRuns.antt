@@ -4,13 +4,10 @@ use Rattle.std.proofs.Common.{◌≡◌, ℕ, ◌++◌, Bool, true, false, if◌
 use Rattle.std.proofs.Common.{Option, Some, refl}
 use Rattle.std.proofs.Common.{sym, ap, ◌∙◌}
 use Rattle.std.proofs.lemmas.Bool.{or_parts}
-use Rattle.rl_base.specs.declared.ids.SymbolId.{SymbolId}
-use Rattle.rl_builder.specs.Builder.{State}
-use Rattle.rl_hir.specs.Pieces.{Piece}
 use Rattle.rl_hir.specs.declared.instruction.InstructionKind.TheVariants as kinds
 use Rattle.rl_hir.specs.declared.instruction.InstructionValue.TheVariants as values
-use Rattle.rl_hir.specs.declared.instruction.Place.{Place}
 use Rattle.rl_lowered.proofs.Blocks.{all_blocks}
+use Rattle.rl_lowered.proofs.Common.{At, End, Names, Node, Piece, Pieces, Place, Said, State, SymbolId, Syntax, Then}
 use Rattle.rl_lowered.proofs.ItemBlocks.{blocks_found_again}
 use Rattle.rl_lowered.proofs.Clean.{constant_head_never, first_none, lost_head_never, member_head_clean}
 use Rattle.rl_lowered.proofs.Forms.{identifiers_in, key_by, store_acts}
@@ -33,7 +30,6 @@ use Rattle.rl_model.specs.Patterns.{declare}
 use Rattle.rl_model.specs.Patterns as patterns
 use Rattle.rl_model.specs.Scene.{Scene}
 use Rattle.rl_model.specs.Statements.{is_using, take_head}
-use Rattle.rl_names.specs.Names.{Names}
 use Rattle.rl_names.specs.declared.names.Meaning.{Meaning}
 use Rattle.rl_names.specs.declared.names.Meaning.TheVariants.{Local, Outer}
 use Rattle.rl_promises.specs.Patterns.{is_pattern}
@@ -42,10 +38,9 @@ use Rattle.rl_promises.specs.Stops.{has_using}
 use Rattle.rl_runs.proofs.Expressions.{none_run}
 use Rattle.rl_runs.proofs.Moves.{extends_refl, extends_resolved}
 use Rattle.rl_runs.specs.Simulation.{RunsPattern}
-use Rattle.rl_syntax.specs.declared.numbered.At.{At}
 use Rattle.rl_syntax.specs.declared.word.Word.{Word}
 use Rattle.rl_syntax.specs.declared.word.Word.TheVariants as word
-use Rattle.rl_syntax.specs.Syntax.{Syntax, Node, Listed, Said, Absent, Pieces, End, Then}
+use Rattle.rl_syntax.specs.Syntax.{Listed, Absent}
 
 -- Names and properties.
 

@@ -4,13 +4,10 @@ use Rattle.std.proofs.Common.{◌≡◌, ℕ, ◌++◌, Bool, true, false, true�
 use Rattle.std.proofs.Common.{sym, ap, ◌∙◌}
 use Rattle.std.proofs.Common.{append-nil, append_assoc}
 use Rattle.std.proofs.lemmas.Option.{none-some}
-use Rattle.rl_base.specs.declared.span.Span.{Span}
-use Rattle.rl_builder.specs.Builder.{State}
-use Rattle.rl_hir.specs.Pieces.{Piece}
-use Rattle.rl_hir.specs.declared.instruction.Place.{Place}
 use Rattle.rl_lowered.proofs.BoundSlots.{AreClean}
 use Rattle.rl_lowered.proofs.BoundSlots as bound
 use Rattle.rl_lowered.proofs.Clean.{constant_head_never, first_none, second_none}
+use Rattle.rl_lowered.proofs.Common.{At, End, Names, Node, Piece, Pieces, Place, Said, Span, State, Syntax, Then}
 use Rattle.rl_lowered.proofs.HeldParts.{bind_held, member_held}
 use Rattle.rl_lowered.proofs.ItemForms.{item_ahead, item_refuses, item_taken, lost_never}
 use Rattle.rl_lowered.proofs.Rearranged.{Rearranged, rearranged_both, rearranged_cross, rearranged_refl, rearranged_same, rearranged_then}
@@ -21,15 +18,13 @@ use Rattle.rl_lowered.specs.Forms as forms
 use Rattle.rl_lowered.specs.Items.{BoundItems, IsBinding, IsTaking, Later, TakenItems}
 use Rattle.rl_lowered.specs.Items as items
 use Rattle.rl_model.specs.Shapes.{is_absent, is_plain_rest}
-use Rattle.rl_names.specs.Names.{Names}
 use Rattle.rl_promises.specs.Live.{Held, held_among, held_as, held_in}
 use Rattle.rl_promises.specs.Patterns.{is_forced, is_lost_item, is_pattern, key_name}
 use Rattle.rl_promises.specs.Rows.{refusals, refusals_in_round, refusals_to, refusals_to_round}
 use Rattle.rl_promises.specs.Tallies.{held_span, store_word, stored_among, stored_by, stored_in}
-use Rattle.rl_syntax.specs.declared.numbered.At.{At}
 use Rattle.rl_syntax.specs.declared.word.Word.{Word}
 use Rattle.rl_syntax.specs.declared.word.Word.TheVariants as word
-use Rattle.rl_syntax.specs.Syntax.{Absent, End, Listed, Node, Pieces, Said, Syntax, Then, span_of}
+use Rattle.rl_syntax.specs.Syntax.{Absent, Listed, span_of}
 
 -- The store of a target that takes a value, by an instruction at the span: that of a name, in front of which a default may be taken.
 

@@ -5,17 +5,12 @@ use Rattle.std.proofs.Common.{append-nil}
 use Rattle.std.specs.List.{list_any}
 use Rattle.std.specs.Str.{bytes_eq}
 use Rattle.rl_base.proofs.Bools.{and_true}
-use Rattle.rl_base.specs.declared.ids.BlockId.{BlockId}
-use Rattle.rl_base.specs.declared.span.Span.{Span}
-use Rattle.rl_builder.specs.Builder.{State}
-use Rattle.rl_hir.specs.declared.instruction.InstructionValue.{InstructionValue}
 use Rattle.rl_hir.specs.declared.instruction.InstructionValue.TheVariants as values
-use Rattle.rl_hir.specs.declared.instruction.Place.{Place}
 use Rattle.rl_hir.specs.declared.instruction.PlaceOrSpread.{PlaceOrSpread}
 use Rattle.rl_hir.specs.declared.instruction.PrimitiveValue.{PrimitiveValue}
 use Rattle.rl_hir.specs.declared.instruction.TemplateQuasi.{TemplateQuasi}
-use Rattle.rl_hir.specs.Pieces.{Piece}
 use Rattle.rl_hir.specs.Written.{value_word}
+use Rattle.rl_lowered.proofs.Common.{At, BlockId, End, InstructionValue, Names, Node, Piece, Pieces, Place, Said, Span, State, Syntax, Then}
 use Rattle.rl_lowered.proofs.Keys.{HasText, Name, has_text}
 use Rattle.rl_lowered.specs.Forms.{AreQuasis, Front, IsAnnotation, IsCast, IsForm, IsInside, IsLinkKey, IsLiteral, IsMember, IsWrapper}
 use Rattle.rl_lowered.specs.Forms.{MemberKey, call_of, handed_on, is_property}
@@ -25,16 +20,14 @@ use Rattle.rl_lowered.specs.Lowered as lowered
 use Rattle.rl_lowered.specs.Promised.{counted_word}
 use Rattle.rl_model.specs.Shapes.{key_text}
 use Rattle.rl_model.specs.Worlds.{is_reassign}
-use Rattle.rl_names.specs.Names.{Names}
 use Rattle.rl_promises.proofs.Unheld.{names_unheld, type_unheld}
 use Rattle.rl_promises.specs.Held.{is_of}
 use Rattle.rl_promises.specs.Live.{Held, held_among, held_as, held_in}
 use Rattle.rl_promises.specs.Tallies.{Awaits, Calls, Constructions, IsHeldKind, Stores, call_word, held_span, held_word, is_among}
 use Rattle.rl_promises.specs.Tallies.{store_word, stores_at}
-use Rattle.rl_syntax.specs.declared.numbered.At.{At}
 use Rattle.rl_syntax.specs.declared.word.Word.{Word}
 use Rattle.rl_syntax.specs.declared.word.Word.TheVariants as word
-use Rattle.rl_syntax.specs.Syntax.{Absent, End, Flag, Listed, Node, Pieces, Said, Syntax, Then}
+use Rattle.rl_syntax.specs.Syntax.{Absent, Flag, Listed}
 
 -- True of a value whose instruction is counted.
 abbrev pub is_held : InstructionValue → Bool

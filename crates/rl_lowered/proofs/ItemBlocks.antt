@@ -1,24 +1,20 @@
 -- Look-ups, temporaries and diagnostics of the items of patterns preserve the blocks, and the builder stays in its block.
 use Rattle.std.proofs.Common.{◌≡◌, ℕ, Bool, true, false, [], List, Option, Some, None, refl, sym, ◌∙◌, subst}
-use Rattle.rl_base.specs.declared.ids.SymbolId.{SymbolId}
 use Rattle.rl_base.specs.declared.row.Row.TheVariants as row
-use Rattle.rl_base.specs.declared.span.Span.{Span}
 use Rattle.rl_base.specs.Diagnostics.{diagnostic_at}
-use Rattle.rl_base.specs.declared.diagnostic.Diagnostic.{Diagnostic}
-use Rattle.rl_builder.specs.Builder.{State, recorded}
+use Rattle.rl_builder.specs.Builder.{recorded}
 use Rattle.rl_builder.specs.declared.blocks.WipBlock.{WipBlock}
-use Rattle.rl_hir.specs.Pieces.{Piece}
 use Rattle.rl_lowered.proofs.Catches.{blocks_promoted}
+use Rattle.rl_lowered.proofs.Common.{Diagnostic, Names, Piece, Pieces, Span, State, SymbolId, Syntax}
 use Rattle.rl_lowered.proofs.Names.{found_within}
 use Rattle.rl_lowered.proofs.Redeclared.{blocks_redeclared}
 use Rattle.rl_lowered.specs.Items.{BoundItems, Later, LoweredAhead, TakenItems, found_again, fraction_met, key_met, met, promoted}
 use Rattle.rl_lowered.specs.Items as items
 use Rattle.rl_lowered.specs.Named.{IsFound, found}
-use Rattle.rl_names.specs.Names.{Names}
 use Rattle.rl_promises.specs.Patterns.{fraction_in, lost_item, lost_rest, target_under}
 use Rattle.rl_runs.proofs.Preserving.{blocks_recorded, blocks_refl, blocks_resolved, blocks_then}
 use Rattle.rl_runs.specs.Blocks.{IsLedTo, Passes, PreservesBlocks}
-use Rattle.rl_syntax.specs.Syntax.{Pieces, Syntax, span_of}
+use Rattle.rl_syntax.specs.Syntax.{span_of}
 
 -- The blocks are preserved, and the builder stands where it stood: no block and no instruction was made.
 pub record Stays (s t : State) : Type 0 where

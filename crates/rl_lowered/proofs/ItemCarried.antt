@@ -1,17 +1,12 @@
 -- The items of patterns, for a relation that each move keeps: names that the head of a loop declares get other spans there.
 use Rattle.std.proofs.Common.{◌≡◌, ℕ, Bool, true, false, true≢false, if◌then◌else◌, List, [], ◌∷◌, Option, Some, None, refl, sym, ap, ◌∙◌}
 use Rattle.rl_base.specs.Diagnostics.{diagnostic_at}
-use Rattle.rl_base.specs.declared.diagnostic.Diagnostic.{Diagnostic}
-use Rattle.rl_base.specs.declared.ids.SymbolId.{SymbolId}
 use Rattle.rl_base.specs.declared.row.Row.TheVariants as row
-use Rattle.rl_base.specs.declared.span.Span.{Span}
-use Rattle.rl_builder.specs.Builder.{State, recorded}
-use Rattle.rl_hir.specs.Pieces.{Piece}
+use Rattle.rl_builder.specs.Builder.{recorded}
+use Rattle.rl_lowered.proofs.Common.{At, Diagnostic, End, Names, Node, Piece, Pieces, Said, Span, State, SymbolId, Syntax, Then}
 use Rattle.rl_lowered.specs.Named.{IsFound, found}
-use Rattle.rl_names.specs.Names.{Names}
 use Rattle.rl_promises.specs.Rebound.{is_symbol}
-use Rattle.rl_syntax.specs.Syntax.{Node, Pieces, Syntax, span_of}
-use Rattle.rl_syntax.specs.declared.numbered.At.{At}
+use Rattle.rl_syntax.specs.Syntax.{span_of}
 use Rattle.rl_syntax.specs.declared.word.Word.TheVariants as word
 use Rattle.rl_syntax.specs.declared.word.Word.{Word}
 use Rattle.rl_lowered.proofs.Carrying.{IsCarried, at_symbol, unchanged}
@@ -23,7 +18,7 @@ use Rattle.rl_model.specs.Patterns.{is_turn}
 use Rattle.rl_model.specs.Shapes.{is_plain_rest}
 use Rattle.rl_promises.specs.Patterns.{fraction_in, is_ahead, is_lost_item, lost_item, lost_rest, target_under}
 use Rattle.rl_promises.specs.Rebound.{span_in, span_in_round}
-use Rattle.rl_syntax.specs.Syntax.{Absent, End, Listed, Said, Then}
+use Rattle.rl_syntax.specs.Syntax.{Absent, Listed}
 
 -- The spans behind a part that declares variables again, or not.
 abbrev pub again_span : Bool → ((symbol : ℕ) → (before : Span) → Span) → (symbol : ℕ) → (before : Span) → Span

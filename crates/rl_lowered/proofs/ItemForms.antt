@@ -2,11 +2,9 @@
 use Rattle.std.proofs.Common.{◌≡◌, ℕ, ◌++◌, Bool, true, false, true≢false, is_some, if◌then◌else◌, List, [], ◌∷◌, codes}
 use Rattle.std.proofs.Common.{Option, Some, None, option_map, unwrap_or, refl, sym, ap, ◌∙◌}
 use Rattle.std.proofs.lemmas.Option.{none-some}
-use Rattle.rl_base.specs.declared.diagnostic.Diagnostic.{Diagnostic}
-use Rattle.rl_base.specs.declared.span.Span.{Span}
-use Rattle.rl_hir.specs.Pieces.{Gives, Piece, operands, texts}
-use Rattle.rl_hir.specs.declared.instruction.Place.{Place}
+use Rattle.rl_hir.specs.Pieces.{Gives, operands, texts}
 use Rattle.rl_lowered.proofs.Clean.{never}
+use Rattle.rl_lowered.proofs.Common.{At, Diagnostic, End, Names, Node, Piece, Pieces, Place, Said, Span, Syntax, Then}
 use Rattle.rl_lowered.specs.Forms.{BoundProperty, Element, IsItem, Shorthand, ShorthandDefault, TakenProperty}
 use Rattle.rl_lowered.specs.Params.{TakesEarly}
 use Rattle.rl_machine.specs.Acts.{targets}
@@ -15,12 +13,10 @@ use Rattle.rl_model.specs.Expressions.{assign_to}
 use Rattle.rl_model.specs.Patterns.{bind, is_early}
 use Rattle.rl_model.specs.Scene.{Scene}
 use Rattle.rl_model.specs.Shapes.{has_key, is_hole, key_text, piece_shape, said}
-use Rattle.rl_names.specs.Names.{Names}
 use Rattle.rl_promises.specs.Patterns.{fraction_in, is_ahead, is_lost_item, key_name, lost_item, said_of_fraction, said_of_key, takes_apart}
 use Rattle.rl_promises.specs.Rows.{refusals, refusals_to}
-use Rattle.rl_syntax.specs.declared.numbered.At.{At}
 use Rattle.rl_syntax.specs.declared.word.Word.TheVariants as word
-use Rattle.rl_syntax.specs.Syntax.{Syntax, Node, Said, Flag, Pieces, End, Then}
+use Rattle.rl_syntax.specs.Syntax.{Flag}
 use Rattle.rl_text.specs.Numeral.{is_numeral}
 
 -- Keys.

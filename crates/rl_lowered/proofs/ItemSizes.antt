@@ -2,11 +2,8 @@
 -- instruction leaves room for its temporary.
 use Rattle.std.proofs.Common.{◌≡◌, ℕ, ◌+◌, ◌*◌, ◌≤◌, Bool, true, false, true≢false, List, Option, Some, None, refl, sym, arith}
 use Rattle.std.proofs.Common.{length}
-use Rattle.rl_base.specs.declared.ids.SymbolId.{SymbolId}
-use Rattle.rl_base.specs.declared.span.Span.{Span}
-use Rattle.rl_builder.specs.Builder.{State}
-use Rattle.rl_hir.specs.Pieces.{Piece}
 use Rattle.rl_lowered.proofs.Catches.{size_promoted}
+use Rattle.rl_lowered.proofs.Common.{End, Names, Node, Piece, Pieces, Span, State, SymbolId, Syntax, Then}
 use Rattle.rl_lowered.proofs.LookSizes.{found_size}
 use Rattle.rl_lowered.proofs.Redeclared.{size_redeclared}
 use Rattle.rl_lowered.specs.Forms.{BoundProperty, Element, IsItem, Shorthand, ShorthandDefault, TakenProperty}
@@ -14,10 +11,9 @@ use Rattle.rl_lowered.specs.Items.{BoundItems, Later, LoweredAhead, TakenItems, 
 use Rattle.rl_lowered.specs.Items as items
 use Rattle.rl_lowered.specs.Named.{found}
 use Rattle.rl_lowered.specs.Promised.{nodes_left}
-use Rattle.rl_names.specs.Names.{Names}
 use Rattle.rl_promises.specs.Patterns.{fraction_in, is_lost_item, target_under}
 use Rattle.rl_runs.specs.Blocks.{size_of}
-use Rattle.rl_syntax.specs.Syntax.{Syntax, Node, Pieces, End, Then, nodes, nodes_of, span_of}
+use Rattle.rl_syntax.specs.Syntax.{nodes, nodes_of, span_of}
 
 -- The number of parts in a row.
 abbrev pub count_of : Pieces → ℕ

@@ -1,9 +1,8 @@
 -- Keys of object literals that are known before the literal is evaluated.
 use Rattle.std.proofs.Common.{◌≡◌, ℕ, Bool, true, false, if◌then◌else◌, List, ◌∷◌, Some, None, subst, refl}
 use Rattle.std.proofs.lemmas.Option.{none-some, same_Some}
+use Rattle.rl_lowered.proofs.Common.{At, End, Node, Said, Syntax, Then}
 use Rattle.rl_model.specs.Shapes.{key_text}
-use Rattle.rl_syntax.specs.Syntax.{Syntax, Node, Said, End, Then}
-use Rattle.rl_syntax.specs.declared.numbered.At.{At}
 use Rattle.rl_syntax.specs.declared.word.Word.TheVariants as word
 use Rattle.rl_text.specs.Numeral.{is_numeral}
 

@@ -14,6 +14,7 @@ pub mod ChainFrames
 pub mod ChainRuns
 pub mod Clean
 pub mod CleanChains
+pub mod Common
 pub mod ExpressionBlocks
 pub mod ExpressionSteps
 pub mod Forms

@@ -1,19 +1,15 @@
 -- The instructions that blocks list since the lowering of a part began: each that was made is listed once more.
 use Rattle.std.proofs.Common.{◌≡◌, ℕ, ◌+◌, Bool, true, false, List, Option, Some, None, refl}
-use Rattle.rl_base.specs.declared.diagnostic.Diagnostic.{Diagnostic}
-use Rattle.rl_base.specs.declared.ids.BlockId.{BlockId}
 use Rattle.rl_base.specs.declared.ids.InstructionId.{InstructionId}
-use Rattle.rl_base.specs.declared.ids.SymbolId.{SymbolId}
 use Rattle.rl_base.specs.declared.operator.BinaryOperator.{BinaryOperator}
 use Rattle.rl_base.specs.declared.operator.UpdateOperator.{UpdateOperator}
 use Rattle.rl_base.specs.declared.row.Row.TheVariants as row
-use Rattle.rl_base.specs.declared.span.Span.{Span}
 use Rattle.rl_base.specs.declared.type_kind.TypeKind.{TypeKind}
 use Rattle.rl_base.specs.declared.type_kind.TypeKind.TheVariants as types
 use Rattle.rl_base.specs.declared.variable_kind.VariableKind.{VariableKind}
 use Rattle.rl_base.specs.declared.variable_kind.VariableKind.TheVariants as declared
 use Rattle.rl_base.specs.Diagnostics.{diagnostic_at}
-use Rattle.rl_builder.specs.Builder.{State, completed_by, innermost, new_block, recorded, reserved, with_temporary}
+use Rattle.rl_builder.specs.Builder.{completed_by, innermost, new_block, recorded, reserved, with_temporary}
 use Rattle.rl_builder.specs.Builder.{with_type}
 use Rattle.rl_builder.specs.Dropped.{is_function_expression}
 use Rattle.rl_builder.specs.Temporaries.{temporary, with_value}
@@ -31,9 +27,7 @@ use Rattle.rl_hir.specs.declared.function.BlockKind.TheVariants as blocks
 use Rattle.rl_hir.specs.declared.function.Param.{Param}
 use Rattle.rl_hir.specs.declared.instruction.InstructionKind.{InstructionKind}
 use Rattle.rl_hir.specs.declared.instruction.InstructionKind.TheVariants as variables
-use Rattle.rl_hir.specs.declared.instruction.InstructionValue.{InstructionValue}
 use Rattle.rl_hir.specs.declared.instruction.InstructionValue.TheVariants as values
-use Rattle.rl_hir.specs.declared.instruction.Place.{Place}
 use Rattle.rl_hir.specs.declared.instruction.PlaceOrSpread.{PlaceOrSpread}
 use Rattle.rl_hir.specs.declared.instruction.PrimitiveValue.TheVariants as primitives
 use Rattle.rl_hir.specs.declared.terminal.Case.{Case}
@@ -41,8 +35,8 @@ use Rattle.rl_hir.specs.declared.terminal.GotoVariant.TheVariants as gotos
 use Rattle.rl_hir.specs.declared.terminal.ReturnVariant.TheVariants as returns
 use Rattle.rl_hir.specs.declared.terminal.Terminal.{Terminal}
 use Rattle.rl_hir.specs.declared.terminal.TerminalKind.TheVariants as kinds
-use Rattle.rl_hir.specs.Pieces.{Piece}
 use Rattle.rl_lowered.proofs.Catches.{catch_declared, declares_caught, stores_caught}
+use Rattle.rl_lowered.proofs.Common.{BlockId, Diagnostic, InstructionValue, Names, Piece, Pieces, Place, Span, State, SymbolId, Syntax}
 use Rattle.rl_lowered.proofs.ListingMoves.{beside, lists_beside, lists_completed, lists_entered, lists_for_opened, lists_if_ended}
 use Rattle.rl_lowered.proofs.ItemBlocks.{ahead_stays, bound_stays, stays_met, taken_stays}
 use Rattle.rl_lowered.proofs.ListingMoves.{lists_default, lists_link, lists_stays}
@@ -63,13 +57,12 @@ use Rattle.rl_lowered.specs.Lowered.{LoweredBound, LoweredLater, LoweredMoved, L
 use Rattle.rl_lowered.specs.Lowered as lowered
 use Rattle.rl_lowered.specs.Named.{found}
 use Rattle.rl_model.specs.Actions.{Label}
-use Rattle.rl_names.specs.Names.{Names}
 use Rattle.rl_optional_frames.specs.Frames.{default_at, default_ended, link_at, link_objected}
 use Rattle.rl_promises.specs.Moved.{type_name}
 use Rattle.rl_promises.specs.Rows.{refusal, row_of_head}
 use Rattle.rl_runs.specs.Moves.{branch, ends_by, goto, last_hole, next_hole, return_of, returned_from, threw_from, without_handler}
 use Rattle.rl_syntax.specs.declared.word.Word.{Word}
-use Rattle.rl_syntax.specs.Syntax.{Pieces, Syntax, span_of}
+use Rattle.rl_syntax.specs.Syntax.{span_of}
 
 -- No value that an expression leaves makes a function.
 

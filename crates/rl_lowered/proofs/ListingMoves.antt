@@ -2,11 +2,9 @@
 use Rattle.std.proofs.Common.{◌≡◌, ℕ, ◌+◌, ◌<◌, ◌≤◌, ◌++◌, Bool, false, List, [], ◌∷◌, All, length, length-append, append-nil}
 use Rattle.std.proofs.Common.{Option, Some, None, refl, sym, ap, ◌∙◌, subst, arith}
 use Rattle.std.proofs.lemmas.List.Elements.{All-append, All-cons, All-head, All-nil, All-push, All-tail}
-use Rattle.rl_base.specs.declared.ids.BlockId.{BlockId}
 use Rattle.rl_base.specs.declared.ids.InstructionId.{InstructionId}
 use Rattle.rl_base.specs.declared.operator.BinaryOperator.TheVariants as operator
-use Rattle.rl_base.specs.declared.span.Span.{Span}
-use Rattle.rl_builder.specs.Builder.{State, completed_by, ended_by, entered, innermost, maybe_throw, new_block, plainly_pushed, pushed}
+use Rattle.rl_builder.specs.Builder.{completed_by, ended_by, entered, innermost, maybe_throw, new_block, plainly_pushed, pushed}
 use Rattle.rl_builder.specs.Builder.{pushed_under, reserved, with_temporary}
 use Rattle.rl_builder.specs.declared.blocks.WipBlock.{WipBlock}
 use Rattle.rl_builder.specs.Dropped.{is_function_expression}
@@ -22,9 +20,7 @@ use Rattle.rl_hir.specs.declared.function.BlockKind.{BlockKind}
 use Rattle.rl_hir.specs.declared.function.BlockKind.TheVariants as blocks
 use Rattle.rl_hir.specs.declared.instruction.Instruction.{Instruction}
 use Rattle.rl_hir.specs.declared.instruction.InstructionKind.TheVariants as variables
-use Rattle.rl_hir.specs.declared.instruction.InstructionValue.{InstructionValue}
 use Rattle.rl_hir.specs.declared.instruction.InstructionValue.TheVariants as values
-use Rattle.rl_hir.specs.declared.instruction.Place.{Place}
 use Rattle.rl_hir.specs.declared.instruction.PrimitiveValue.TheVariants as primitives
 use Rattle.rl_hir.specs.declared.terminal.GotoVariant.{GotoVariant}
 use Rattle.rl_hir.specs.declared.terminal.GotoVariant.TheVariants as gotos
@@ -32,6 +28,7 @@ use Rattle.rl_hir.specs.declared.terminal.Terminal.{Terminal}
 use Rattle.rl_hir.specs.declared.terminal.TerminalKind.TheVariants as kinds
 use Rattle.rl_hir.specs.Numbered.{listed_in}
 use Rattle.rl_lowered.proofs.ChainFrames.{linked_state}
+use Rattle.rl_lowered.proofs.Common.{BlockId, InstructionValue, Place, Span, State}
 use Rattle.rl_lowered.proofs.ItemBlocks.{Stays}
 use Rattle.rl_lowered.proofs.Occurring.{occurs_append, occurs_blocks, occurs_numbers, within_last, within_none, within_then}
 use Rattle.rl_lowered.specs.Listing.{ListsSince, ListsTable, all_listed, occurrences, one_within}

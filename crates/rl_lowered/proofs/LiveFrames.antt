@@ -3,10 +3,8 @@ use Rattle.std.proofs.Common.{◌≡◌, ◌+◌, ◌++◌, Bool, true, false, L
 use Rattle.std.proofs.Common.{All}
 use Rattle.std.proofs.lemmas.List.Elements.{All-append, All-cons, All-head, All-tail}
 use Rattle.std.specs.List.{list_any}
-use Rattle.rl_base.specs.declared.ids.BlockId.{BlockId}
 use Rattle.rl_base.specs.declared.operator.LogicalOperator.{LogicalOperator}
-use Rattle.rl_base.specs.declared.span.Span.{Span}
-use Rattle.rl_builder.specs.Builder.{State, new_block, pushed, with_temporary}
+use Rattle.rl_builder.specs.Builder.{new_block, pushed, with_temporary}
 use Rattle.rl_builder.specs.Temporaries.{temporary, unordered, with_value}
 use Rattle.rl_frames.proofs.ValueLives.{aside_lives, value_lives}
 use Rattle.rl_frames.specs.Parts.{loads, logical_begun, logical_end, logical_entered, logical_finished, logical_left, logical_place}
@@ -17,10 +15,9 @@ use Rattle.rl_hir.specs.Blocks.{same_id}
 use Rattle.rl_hir.specs.declared.function.BlockKind.TheVariants as block
 use Rattle.rl_hir.specs.declared.instruction.Instruction.{Instruction}
 use Rattle.rl_hir.specs.declared.instruction.InstructionKind.TheVariants as variables
-use Rattle.rl_hir.specs.declared.instruction.InstructionValue.{InstructionValue}
 use Rattle.rl_hir.specs.declared.instruction.InstructionValue.TheVariants as values
-use Rattle.rl_hir.specs.declared.instruction.Place.{Place}
 use Rattle.rl_hir.specs.declared.terminal.GotoVariant.TheVariants as gotos
+use Rattle.rl_lowered.proofs.Common.{BlockId, InstructionValue, Place, Span, State}
 use Rattle.rl_model.specs.Dead.{Outs, either, in_row}
 use Rattle.rl_order.proofs.Ordering.{or_left, same_self}
 use Rattle.rl_runs.proofs.Living.{lives_dead, lives_none, lives_pushed, lives_then}

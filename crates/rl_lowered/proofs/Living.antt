@@ -1,25 +1,18 @@
 -- Live calls, constructions, awaits and stores have an instruction in a block that is reached, where nothing was refused.
 use Rattle.std.proofs.Common.{◌≡◌, ℕ, ◌++◌, Bool, true, false, List, [], ◌∷◌, Option, Some, None, codes, refl, sym, ap, ◌∙◌, subst}
 use Rattle.std.proofs.Common.{append-nil}
-use Rattle.rl_base.specs.declared.ids.BlockId.{BlockId}
-use Rattle.rl_base.specs.declared.ids.SymbolId.{SymbolId}
 use Rattle.rl_base.specs.declared.operator.UpdateOperator.{UpdateOperator}
-use Rattle.rl_base.specs.declared.span.Span.{Span}
 use Rattle.rl_base.specs.declared.type_kind.TypeKind.{TypeKind}
 use Rattle.rl_base.specs.declared.type_kind.TypeKind.TheVariants as types
 use Rattle.rl_base.specs.declared.variable_kind.VariableKind.{VariableKind}
 use Rattle.rl_base.specs.declared.variable_kind.VariableKind.TheVariants as kinds
 use Rattle.rl_base.specs.Operators.{assignment_text, update_text}
-use Rattle.rl_builder.specs.Builder.{State}
 use Rattle.rl_builder.specs.Temporaries.{temporary, with_value}
 use Rattle.rl_hir.specs.declared.instruction.InstructionKind.{InstructionKind}
-use Rattle.rl_hir.specs.declared.instruction.InstructionValue.{InstructionValue}
 use Rattle.rl_hir.specs.declared.instruction.InstructionValue.TheVariants as values
 use Rattle.rl_hir.specs.declared.instruction.InstructionKind.TheVariants as variables
 use Rattle.rl_hir.specs.declared.instruction.Pattern.{Pattern}
-use Rattle.rl_hir.specs.declared.instruction.Place.{Place}
 use Rattle.rl_hir.specs.declared.instruction.PrimitiveValue.TheVariants as primitives
-use Rattle.rl_hir.specs.Pieces.{Piece}
 use Rattle.rl_lowered.proofs.Blocks.{all_blocks, blocks_cast, blocks_member, expression_blocks, front_blocks}
 use Rattle.rl_lowered.proofs.Blocks.{last_blocks, later_blocks, target_blocks}
 use Rattle.rl_lowered.proofs.ChainFrames.{linked_lives}
@@ -30,6 +23,8 @@ use Rattle.rl_lowered.proofs.Clean.{compound_member_clean, computed_row_clean, c
 use Rattle.rl_lowered.proofs.Clean.{constant_update_never, first_none, form_clean, fraction_row_never, method_clean, outer_never}
 use Rattle.rl_lowered.proofs.Clean.{private_assigned_never, private_clean, private_never, property_row_clean, refused_never, refusing_never}
 use Rattle.rl_lowered.proofs.Clean.{row_clean, second_none, spread_row_clean, unknown_row_never, updated_member_clean, wrapper_clean}
+use Rattle.rl_lowered.proofs.Common.{BlockId, End, InstructionValue, Names, Node, Piece, Pieces, Place, Said, Span, State, SymbolId, Syntax}
+use Rattle.rl_lowered.proofs.Common.{Then}
 use Rattle.rl_lowered.proofs.HeldItems.{assigned_pattern_held, defaulted_whole_held, left_held, member_target_held, nothing_behind}
 use Rattle.rl_lowered.proofs.HeldItems.{part_stored, pattern_stored, stored_at, taken_held, taking_held}
 use Rattle.rl_lowered.proofs.HeldParts.{call_link_held, link_held, link_word, member_held}
@@ -64,7 +59,6 @@ use Rattle.rl_lowered.specs.Lowered.{Variable, assigned_to, declaring, member_co
 use Rattle.rl_lowered.specs.Lowered.{member_updated, name_computed, name_stored, update_of, value_span}
 use Rattle.rl_lowered.specs.Named.{found}
 use Rattle.rl_lowered.specs.Promised.{held_by, held_of}
-use Rattle.rl_names.specs.Names.{Names}
 use Rattle.rl_optional_frames.proofs.Lives.{default_lives}
 use Rattle.rl_optional_frames.specs.Frames.{default_at, default_ended, link_at, link_objected}
 use Rattle.rl_promises.specs.Chains.{Below, Top}
@@ -77,7 +71,7 @@ use Rattle.rl_runs.proofs.Moves.{extends_resolved, extends_then, extends_value}
 use Rattle.rl_runs.specs.Blocks.{Lives, Stands}
 use Rattle.rl_runs.specs.Facts.{Extends}
 use Rattle.rl_syntax.specs.declared.word.Word.TheVariants as word
-use Rattle.rl_syntax.specs.Syntax.{End, Flag, Node, Pieces, Said, Syntax, Then, span_of}
+use Rattle.rl_syntax.specs.Syntax.{Flag, span_of}
 
 -- The instruction of a value, and what its node holds itself.
 computed_lives : (word : Option (List ℕ)) (s : State) (v : InstructionValue) (span : Span) → IsHeldAs word v

@@ -1,12 +1,9 @@
 -- The numbers of types and identifiers that a look-up adds.
 use Rattle.std.proofs.Common.{ℕ, ◌+◌, ◌≤◌, List, Option, Some, None, [], ◌∷◌, length-append, arith}
-use Rattle.rl_base.specs.declared.ids.SymbolId.{SymbolId}
-use Rattle.rl_base.specs.declared.span.Span.{Span}
-use Rattle.rl_builder.specs.Builder.{State}
 use Rattle.rl_builder.specs.Names.{fresh_identifier, new_span, resolved_by}
 use Rattle.rl_hir.specs.Pairs.{identifier_of}
+use Rattle.rl_lowered.proofs.Common.{Names, Span, State, SymbolId}
 use Rattle.rl_lowered.specs.Named.{found}
-use Rattle.rl_names.specs.Names.{Names}
 use Rattle.rl_runs.specs.Blocks.{size_of}
 use Rattle.rl_used_names.specs.Choosing.{chosen}
 

@@ -1,17 +1,14 @@
 -- The meaning of each kind whose value is one instruction over the values of its parts: their values, and then its event.
 use Rattle.std.proofs.Common.{◌≡◌, ℕ, ◌++◌, ◌&&◌, not, Bool, true, false, if◌then◌else◌, List, [], ◌∷◌, codes, Some, true≢false, refl, sym, ap, ◌∙◌}
-use Rattle.rl_base.specs.declared.diagnostic.Diagnostic.{Diagnostic}
 use Rattle.rl_base.specs.declared.row.Row.TheVariants as row
 use Rattle.rl_base.specs.declared.operator.AssignmentOperator.{AssignmentOperator}
 use Rattle.rl_base.specs.declared.operator.BinaryOperator.{BinaryOperator}
 use Rattle.rl_base.specs.Operators.{assignment_text, unary_text}
-use Rattle.rl_builder.specs.Builder.{State}
-use Rattle.rl_hir.specs.declared.instruction.InstructionValue.{InstructionValue}
 use Rattle.rl_hir.specs.declared.instruction.InstructionValue.TheVariants as values
-use Rattle.rl_hir.specs.declared.instruction.Place.{Place}
 use Rattle.rl_hir.specs.declared.instruction.PrimitiveValue.{PrimitiveValue}
-use Rattle.rl_hir.specs.Pieces.{Piece, gathered, texts, value_pieces}
+use Rattle.rl_hir.specs.Pieces.{gathered, texts, value_pieces}
 use Rattle.rl_lowered.proofs.Clean.{compound_clean, private_never, refused_never, refusing_never, row_clean}
+use Rattle.rl_lowered.proofs.Common.{At, Diagnostic, End, InstructionValue, Names, Node, Piece, Pieces, Place, Said, State, Syntax, Then}
 use Rattle.rl_lowered.proofs.Forms.{event_with, form_event, key_by, quasi_texts}
 use Rattle.rl_lowered.proofs.Plain.{all_shapes, first_value, lowered_plain, one_part, two_parts}
 use Rattle.rl_lowered.specs.Forms.{IsCast, IsForm, IsInside, IsLiteral, IsMember, IsPrivate, IsWrapper, MemberKey, PrivateUpdate, applied_by}
@@ -28,13 +25,11 @@ use Rattle.rl_model.specs.Events.{Key, computed_key, delete, event, fixed_key, l
 use Rattle.rl_model.specs.Expressions.{callee, call_kind, delete_property, eval, first_piece, key_in, later_pieces, one_value, place, values as values_in}
 use Rattle.rl_model.specs.Scene.{Scene}
 use Rattle.rl_model.specs.Shapes.{is_link, lends, lends_receiver, quasis, shapes}
-use Rattle.rl_names.specs.Names.{Names}
 use Rattle.rl_promises.specs.Rows.{refusal, refusals, refusals_in}
 use Rattle.rl_promises.specs.Tallies.{call_word}
-use Rattle.rl_syntax.specs.declared.numbered.At.{At}
 use Rattle.rl_syntax.specs.declared.word.Word.{Word}
 use Rattle.rl_syntax.specs.declared.word.Word.TheVariants as word
-use Rattle.rl_syntax.specs.Syntax.{Absent, Syntax, Node, Said, Flag, Pieces, End, Then}
+use Rattle.rl_syntax.specs.Syntax.{Absent, Flag}
 use Rattle.rl_text.specs.Numeral.{number_of}
 
 -- A key in brackets that is neither a numeral nor refused is computed.

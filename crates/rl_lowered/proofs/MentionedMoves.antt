@@ -3,22 +3,15 @@
 use Rattle.std.proofs.Common.{◌≡◌, inl, inr, ℕ, Bool, false, List, [], ◌∷◌, Option, Some, None, refl}
 use Rattle.std.proofs.lemmas.Option.{none-some}
 use Rattle.rl_base.specs.Diagnostics.{diagnostic_at}
-use Rattle.rl_base.specs.declared.diagnostic.Diagnostic.{Diagnostic}
-use Rattle.rl_base.specs.declared.ids.BlockId.{BlockId}
-use Rattle.rl_base.specs.declared.ids.SymbolId.{SymbolId}
 use Rattle.rl_base.specs.declared.row.Row.TheVariants as row
-use Rattle.rl_base.specs.declared.span.Span.{Span}
-use Rattle.rl_builder.specs.Builder.{State, recorded, with_temporary}
+use Rattle.rl_builder.specs.Builder.{recorded, with_temporary}
 use Rattle.rl_builder.specs.Temporaries.{temporary, with_value}
 use Rattle.rl_frames.specs.Frames.{LogicalParts, TernaryParts, logical_after, logical_at, logical_righted, sequence_at}
 use Rattle.rl_frames.specs.Frames.{ternary_after, ternary_alternated, ternary_at, ternary_consequent, ternary_ended, ternary_parted}
 use Rattle.rl_frames.specs.Parts.{logical_begun, sequence_begun, ternary_begun}
-use Rattle.rl_hir.specs.Pieces.{Piece}
 use Rattle.rl_hir.specs.declared.instruction.InstructionKind.TheVariants as variables
 use Rattle.rl_hir.specs.declared.instruction.InstructionKind.{InstructionKind}
 use Rattle.rl_hir.specs.declared.instruction.InstructionValue.TheVariants as values
-use Rattle.rl_hir.specs.declared.instruction.InstructionValue.{InstructionValue}
-use Rattle.rl_hir.specs.declared.instruction.Place.{Place}
 use Rattle.rl_hir.specs.declared.instruction.PrimitiveValue.TheVariants as primitives
 use Rattle.rl_lowered.proofs.Carried.{carried_default, carried_linked, carried_logical_begun, carried_logical_ended}
 use Rattle.rl_lowered.proofs.Carried.{carried_logical_righted}
@@ -26,6 +19,7 @@ use Rattle.rl_lowered.proofs.Carried.{carried_member, carried_noted, carried_seq
 use Rattle.rl_lowered.proofs.Carried.{carried_ternary_alternated, carried_ternary_begun, carried_ternary_consequent, carried_typed}
 use Rattle.rl_lowered.proofs.Carried.{carried_value}
 use Rattle.rl_lowered.proofs.Carrying.{IsCarried, naming}
+use Rattle.rl_lowered.proofs.Common.{BlockId, Diagnostic, InstructionValue, Names, Piece, Pieces, Place, Span, State, SymbolId, Syntax}
 use Rattle.rl_lowered.proofs.MentionedParts.{ahead_mentions, cast_mentions, default_mentions, form_mentions, item_mentions, key_mentions}
 use Rattle.rl_lowered.proofs.MentionedParts.{member_mentions, object_mentions, private_mentions, refusing_mentions, target_mentions}
 use Rattle.rl_lowered.proofs.MentionedParts.{binding_mentions, taking_mentions, wrapper_mentions}
@@ -39,14 +33,13 @@ use Rattle.rl_lowered.specs.Lowered.{LoweredParts}
 use Rattle.rl_lowered.specs.Lowered.{LoweredPattern, LoweredSpine, LoweredTarget, assigned_to, member_computed, name_computed, name_stored}
 use Rattle.rl_lowered.specs.Lowered.{private_met, value_span}
 use Rattle.rl_lowered.specs.Named.{IsFound, found}
-use Rattle.rl_names.specs.Names.{Names}
 use Rattle.rl_optional_frames.specs.Frames.{default_at, default_ended, link_at, link_objected}
 use Rattle.rl_optional_frames.specs.Parts.{default_begun}
 use Rattle.rl_promises.specs.Locals.{Mentions, MentionsAmong}
 use Rattle.rl_promises.specs.Moved.{type_name}
 use Rattle.rl_promises.specs.Patterns.{fraction_in, lost_item, lost_rest, target_under}
 use Rattle.rl_promises.specs.Rows.{refusal, row_of_head}
-use Rattle.rl_syntax.specs.Syntax.{Pieces, Syntax, span_of}
+use Rattle.rl_syntax.specs.Syntax.{span_of}
 
 -- A relation of states that each move keeps which looks up no symbols but those that `May` allows.
 pub record IsKept (names : Names) (May : SymbolId → Type 0) (R : State → State → Type 0) : Type 0 where

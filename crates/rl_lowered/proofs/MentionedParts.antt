@@ -1,11 +1,8 @@
 -- A node uses and declares the symbols that the parts do which are lowered for it.
 use Rattle.std.proofs.Common.{◌≡◌, inl, inr, Bool, List, Some, refl, ap, ◌∙◌}
 use Rattle.std.proofs.lemmas.Option.{none-some, same_Some}
-use Rattle.rl_base.specs.declared.ids.SymbolId.{SymbolId}
 use Rattle.rl_base.specs.declared.row.Row.{Row}
-use Rattle.rl_hir.specs.Pieces.{Piece}
-use Rattle.rl_hir.specs.declared.instruction.InstructionValue.{InstructionValue}
-use Rattle.rl_hir.specs.declared.instruction.Place.{Place}
+use Rattle.rl_lowered.proofs.Common.{At, End, InstructionValue, Names, Node, Piece, Pieces, Place, Said, SymbolId, Syntax, Then}
 use Rattle.rl_lowered.specs.Forms as forms
 use Rattle.rl_lowered.specs.Forms.{Around, As, Assert, Bare, BoundProperty, DefaultName, DefaultTarget, Element, ImportCall, ImportCallWith}
 use Rattle.rl_lowered.specs.Forms.{Indexed, Instantiated, IsCast, IsDefaulted, IsForm, IsInside, IsItem, IsLinkKey, IsMember, IsPrivate}
@@ -13,13 +10,12 @@ use Rattle.rl_lowered.specs.Forms.{IsRefusing, IsWrapper, LinkIndexed, LinkNumbe
 use Rattle.rl_lowered.specs.Forms.{Parenthesized}
 use Rattle.rl_lowered.specs.Forms.{PrivateDelete, PrivateIn, PrivateUpdate, Satisfies, Shorthand, ShorthandDefault, Static, TakenProperty}
 use Rattle.rl_lowered.specs.Items.{BindsArray, BindsObject, IsBinding, IsTaking, TakesArray, TakesObject}
-use Rattle.rl_names.specs.Names.{Names, local_of}
+use Rattle.rl_names.specs.Names.{local_of}
 use Rattle.rl_names.specs.declared.names.Meaning.{Meaning}
 use Rattle.rl_names.specs.declared.names.Meaning.TheVariants.{Local, Outer}
 use Rattle.rl_promises.specs.Locals.{Mentions, MentionsAmong}
 use Rattle.rl_promises.specs.Patterns.{local_at, target_under}
-use Rattle.rl_syntax.specs.Syntax.{Syntax, Node, Said, Flag, Absent, Pieces, End, Then}
-use Rattle.rl_syntax.specs.declared.numbered.At.{At}
+use Rattle.rl_syntax.specs.Syntax.{Flag, Absent}
 use Rattle.rl_syntax.specs.declared.word.Word.{Word}
 use Rattle.rl_syntax.specs.declared.word.Word.TheVariants as word
 

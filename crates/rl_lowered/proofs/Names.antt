@@ -6,11 +6,7 @@ use Rattle.std.proofs.lemmas.Cmp.{nat_list_eq_equiv}
 use Rattle.std.proofs.lemmas.List.Elements.{All-push}
 use Rattle.std.proofs.lemmas.Option.{cond_some, same_Some}
 use Rattle.std.specs.Str.{bytes_eq}
-use Rattle.rl_base.specs.declared.diagnostic.Diagnostic.{Diagnostic}
-use Rattle.rl_base.specs.declared.ids.BlockId.{BlockId}
-use Rattle.rl_base.specs.declared.ids.SymbolId.{SymbolId}
-use Rattle.rl_base.specs.declared.span.Span.{Span}
-use Rattle.rl_builder.specs.Builder.{State, recorded, with_temporary}
+use Rattle.rl_builder.specs.Builder.{recorded, with_temporary}
 use Rattle.rl_builder.specs.Names.{fbt_label, fresh_identifier, resolved_by}
 use Rattle.rl_builder.specs.Temporaries.{with_value}
 use Rattle.rl_frames.specs.Frames.{LogicalParts, TernaryParts, logical_righted, ternary_alternated, ternary_consequent}
@@ -21,11 +17,8 @@ use Rattle.rl_hir.specs.declared.function.IdentifierName.TheVariants.{Named}
 use Rattle.rl_hir.specs.declared.function.Pair.{Pair}
 use Rattle.rl_hir.specs.declared.function.Param.{Param}
 use Rattle.rl_hir.specs.declared.instruction.InstructionKind.{InstructionKind}
-use Rattle.rl_hir.specs.declared.instruction.InstructionValue.{InstructionValue}
-use Rattle.rl_hir.specs.declared.instruction.Place.{Place}
 use Rattle.rl_hir.specs.declared.terminal.Case.{Case}
 use Rattle.rl_hir.specs.Pairs.{identifier_of, pair}
-use Rattle.rl_hir.specs.Pieces.{Piece}
 use Rattle.rl_lowered.proofs.Carrying.{IsCarried, Naming, naming}
 use Rattle.rl_lowered.proofs.Carried.{later_carried, left_carried, moved_carried, params_carried, pattern_carried, target_carried}
 use Rattle.rl_lowered.proofs.Carried.{all_carried, body_carried, carried_catch_begun, carried_link_opened}
@@ -34,6 +27,7 @@ use Rattle.rl_lowered.proofs.Carried.{carried_ternary_begun, carried_ternary_con
 use Rattle.rl_lowered.proofs.Carried.{expression_carried, front_carried, head_carried, init_carried, last_carried, link_carried}
 use Rattle.rl_lowered.proofs.Carried.{loop_carried, spine_carried, statement_carried, statements_carried, test_carried}
 use Rattle.rl_lowered.proofs.Catches.{length_promoted}
+use Rattle.rl_lowered.proofs.Common.{BlockId, Diagnostic, InstructionValue, Names, Piece, Pieces, Place, Span, State, SymbolId, Syntax}
 use Rattle.rl_lowered.proofs.ItemCarried.{bound_carried}
 use Rattle.rl_lowered.proofs.Redeclared.{names_redeclared}
 use Rattle.rl_lowered.specs.Forms.{Front}
@@ -44,12 +38,10 @@ use Rattle.rl_lowered.specs.Lowered.{LoweredLast, LoweredLink, LoweredLoop, Lowe
 use Rattle.rl_lowered.specs.Lowered.{LoweredStatements, LoweredTest, catch_begun}
 use Rattle.rl_lowered.specs.Named.{IsFound, IsNamed, KeepsNames, declared_span, found}
 use Rattle.rl_model.specs.Actions.{Label}
-use Rattle.rl_names.specs.Names.{Names}
 use Rattle.rl_optional_frames.specs.Parts.{link_opened}
 use Rattle.rl_promises.specs.Fields.{IsNamedPair, name_at}
 use Rattle.rl_promises.specs.Locals.{IsVariable}
 use Rattle.rl_runs.proofs.Steps.{get_more}
-use Rattle.rl_syntax.specs.Syntax.{Pieces, Syntax}
 use Rattle.rl_used_names.proofs.NameLaws.{identifier_of-append_none, identifier_of-append_some, name_of-append, name_of-last}
 use Rattle.rl_used_names.specs.Candidates.{candidate}
 use Rattle.rl_used_names.specs.Choosing.{chosen, free_place}

@@ -9,9 +9,7 @@ use Rattle.std.proofs.lemmas.Slice.Eq.{bytes_eq-Decides}
 use Rattle.rl_base.proofs.Slotted.{get_push_new}
 use Rattle.std.specs.Option.{option_map_or, option_or}
 use Rattle.std.specs.Str.{bytes_eq}
-use Rattle.rl_base.specs.declared.ids.SymbolId.{SymbolId}
-use Rattle.rl_base.specs.declared.span.Span.{Span}
-use Rattle.rl_builder.specs.Builder.{State, with_temporary}
+use Rattle.rl_builder.specs.Builder.{with_temporary}
 use Rattle.rl_builder.specs.Names.{fresh_identifier, new_span, resolved_by}
 use Rattle.rl_builder.specs.Temporaries.{temporary}
 use Rattle.rl_context.specs.Index.{declaration_span}
@@ -24,6 +22,7 @@ use Rattle.rl_lowered.proofs.Blocks.{moved_blocks, pattern_blocks}
 use Rattle.rl_lowered.proofs.Carried.{body_carried, carried_default, moved_carried, params_carried, pattern_carried}
 use Rattle.rl_lowered.proofs.Carrying.{IsCarried, Naming, naming}
 use Rattle.rl_lowered.proofs.Catches.{extends_promoted}
+use Rattle.rl_lowered.proofs.Common.{End, Names, Node, Pieces, Span, State, SymbolId, Syntax, Then}
 use Rattle.rl_lowered.proofs.ItemBlocks.{blocks_found}
 use Rattle.rl_lowered.proofs.MentionedMoves.{AllAllowed, Allowed, IsKept, default_kept, pattern_kept}
 use Rattle.rl_lowered.proofs.ParamRuns.{apart_unplain, default_unplain, moved_there}
@@ -33,7 +32,7 @@ use Rattle.rl_lowered.specs.Items.{caught, promoted, promoted_identifier, variab
 use Rattle.rl_lowered.specs.Lowered as lowered
 use Rattle.rl_lowered.specs.Lowered.{LoweredBody, LoweredParams, LoweredPattern}
 use Rattle.rl_lowered.specs.Named.{HasAgain, found}
-use Rattle.rl_names.specs.Names.{Names, parameter_of, parameters_among}
+use Rattle.rl_names.specs.Names.{parameter_of, parameters_among}
 use Rattle.rl_names.specs.declared.parameters.Parameter.{Parameter}
 use Rattle.rl_optional_frames.proofs.DefaultBlocks.{default_blocks}
 use Rattle.rl_optional_frames.specs.Frames.{default_at, default_ended}
@@ -43,7 +42,7 @@ use Rattle.rl_runs.proofs.Moves.{extends_then}
 use Rattle.rl_runs.proofs.Steps.{get_more}
 use Rattle.rl_runs.specs.Facts.{HasSoundNames}
 use Rattle.rl_semantic.specs.Items.{of_item}
-use Rattle.rl_syntax.specs.Syntax.{Syntax, Node, Absent, Pieces, End, Then}
+use Rattle.rl_syntax.specs.Syntax.{Absent}
 use Rattle.rl_syntax.specs.declared.word.Word.TheVariants as word
 use Rattle.rl_used_names.proofs.NameLaws.{identifier_of-append_none, identifier_of-append_some, user_of-with_user}
 use Rattle.rl_used_names.specs.Choosing.{chosen, is_free, place_from, with_user}

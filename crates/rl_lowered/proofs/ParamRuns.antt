@@ -1,15 +1,14 @@
 -- Lowered parameters have the runs of the source, where nothing of them was refused: each takes its argument in its turn.
 use Rattle.std.proofs.Common.{◌≡◌, ℕ, ◌<◌, ◌≤◌, ◌++◌, inr, Bool, true, false, true≢false, not, if◌then◌else◌, List, [], ◌∷◌}
 use Rattle.std.proofs.Common.{length, length-append, Some, refl, sym, ap, ◌∙◌, subst, arith}
-use Rattle.rl_base.specs.declared.span.Span.{Span}
-use Rattle.rl_builder.specs.Builder.{State, innermost, with_temporary}
+use Rattle.rl_builder.specs.Builder.{innermost, with_temporary}
 use Rattle.rl_hir.specs.declared.function.Param.{Param}
 use Rattle.rl_hir.specs.declared.function.Param.TheVariants as params
-use Rattle.rl_hir.specs.declared.instruction.Place.{Place}
 use Rattle.rl_lowered.proofs.Blocks.{moved_blocks, params_blocks, pattern_blocks}
 use Rattle.rl_lowered.proofs.BoundSlots.{promoted_free}
 use Rattle.rl_lowered.proofs.Catches.{extends_promoted, length_promoted}
 use Rattle.rl_lowered.proofs.Clean.{first_none, param_clean}
+use Rattle.rl_lowered.proofs.Common.{At, End, Names, Node, Pieces, Place, Said, Span, State, Syntax, Then}
 use Rattle.rl_lowered.proofs.ItemBlocks.{blocks_found}
 use Rattle.rl_lowered.proofs.PatternRuns.{binding_runs}
 use Rattle.rl_lowered.proofs.Plain.{lowered_plain, operand_there}
@@ -30,7 +29,6 @@ use Rattle.rl_model.specs.Functions.{is_plain, take_argument}
 use Rattle.rl_model.specs.Patterns.{bind}
 use Rattle.rl_model.specs.Scene.{Scene}
 use Rattle.rl_model.specs.Shapes.{is_absent}
-use Rattle.rl_names.specs.Names.{Names}
 use Rattle.rl_optional_frames.proofs.DefaultBlocks.{default_blocks}
 use Rattle.rl_optional_frames.proofs.DefaultRuns.{default_runs}
 use Rattle.rl_optional_frames.proofs.Taken.{pattern_runs}
@@ -46,9 +44,8 @@ use Rattle.rl_runs.proofs.Steps.{follows_then, later_refl, since_start, since_th
 use Rattle.rl_runs.specs.Continuations.{Since, TracesFrom, between}
 use Rattle.rl_runs.specs.Facts.{Extends, HasSoundNames, IsContainedIn, Nobody}
 use Rattle.rl_runs.specs.Simulation.{RunsPattern}
-use Rattle.rl_syntax.specs.declared.numbered.At.{At}
 use Rattle.rl_syntax.specs.declared.word.Word.TheVariants as word
-use Rattle.rl_syntax.specs.Syntax.{Syntax, Node, Said, Absent, Pieces, End, Then}
+use Rattle.rl_syntax.specs.Syntax.{Absent}
 
 -- A fact that is asked for where a test holds.
 

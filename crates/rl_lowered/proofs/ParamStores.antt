@@ -3,13 +3,12 @@
 use Rattle.std.proofs.Common.{◌≡◌, ℕ, ◌<◌, Bool, true, false, true≢false, not, List, [], ◌∷◌, length, length-append, map, Option}
 use Rattle.std.proofs.Common.{Some, None, refl, sym, ap, ◌∙◌, subst, arith}
 use Rattle.std.specs.Option.{is_some}
-use Rattle.rl_base.specs.declared.ids.SymbolId.{SymbolId}
-use Rattle.rl_base.specs.declared.span.Span.{Span}
-use Rattle.rl_builder.specs.Builder.{State, with_temporary}
+use Rattle.rl_builder.specs.Builder.{with_temporary}
 use Rattle.rl_hir.specs.Pairs.{identifier_of}
 use Rattle.rl_hir.specs.declared.function.Param.{Param}
 use Rattle.rl_lowered.proofs.Blocks.{moved_blocks, params_blocks, pattern_blocks}
 use Rattle.rl_lowered.proofs.Catches.{extends_promoted, length_promoted}
+use Rattle.rl_lowered.proofs.Common.{At, End, Names, Node, Pieces, Span, State, SymbolId, Syntax, Then}
 use Rattle.rl_lowered.proofs.ItemBlocks.{blocks_found}
 use Rattle.rl_lowered.proofs.ParamRuns.{moved_there}
 use Rattle.rl_lowered.specs.Items.{caught, promoted}
@@ -27,7 +26,6 @@ use Rattle.rl_model.specs.Runs.{param_identifier}
 use Rattle.rl_model.specs.Scene.{Scene}
 use Rattle.rl_model.specs.Shapes.{is_absent}
 use Rattle.rl_names.specs.Locals.{AreDeclared}
-use Rattle.rl_names.specs.Names.{Names}
 use Rattle.rl_optional_frames.proofs.DefaultBlocks.{default_blocks}
 use Rattle.rl_promises.specs.Lowerable.{Where}
 use Rattle.rl_promises.specs.Patterns.{takes_apart}
@@ -38,8 +36,7 @@ use Rattle.rl_runs.proofs.Steps.{set_other, set_same}
 use Rattle.rl_runs.specs.Continuations.{Agrees}
 use Rattle.rl_runs.specs.Facts.{AreOne, CoversNames, Extends, HasSoundNames, Nobody}
 use Rattle.rl_semantic.specs.Items.{of_item}
-use Rattle.rl_syntax.specs.Syntax.{Syntax, Node, Absent, Pieces, End, Then}
-use Rattle.rl_syntax.specs.declared.numbered.At.{At}
+use Rattle.rl_syntax.specs.Syntax.{Absent}
 use Rattle.rl_syntax.specs.declared.word.Word.TheVariants as word
 
 -- A parameter that is a plain name takes its argument. Any other takes none.

@@ -1,29 +1,25 @@
 -- Lowered expressions and declarations complete, refused or not.
 use Rattle.std.proofs.Common.{◌≡◌, ℕ, Bool, true, false, List, [], Option, Some, None, refl}
-use Rattle.rl_base.specs.declared.ids.BlockId.{BlockId}
-use Rattle.rl_base.specs.declared.ids.SymbolId.{SymbolId}
 use Rattle.rl_base.specs.declared.operator.BinaryOperator.{BinaryOperator}
 use Rattle.rl_base.specs.declared.operator.UpdateOperator.{UpdateOperator}
 use Rattle.rl_base.specs.declared.row.Row.TheVariants as row
-use Rattle.rl_base.specs.declared.span.Span.{Span}
 use Rattle.rl_base.specs.declared.type_kind.TypeKind.{TypeKind}
 use Rattle.rl_base.specs.declared.type_kind.TypeKind.TheVariants as types
 use Rattle.rl_base.specs.declared.variable_kind.VariableKind.{VariableKind}
 use Rattle.rl_base.specs.declared.variable_kind.VariableKind.TheVariants as kinds
 use Rattle.rl_base.specs.Diagnostics.{diagnostic_at}
 use Rattle.rl_base.specs.VariableKinds.{variable_text}
-use Rattle.rl_builder.specs.Builder.{State, recorded, with_temporary}
+use Rattle.rl_builder.specs.Builder.{recorded, with_temporary}
 use Rattle.rl_builder.specs.Temporaries.{temporary, unordered, with_value}
 use Rattle.rl_hir.specs.declared.function.Param.{Param}
 use Rattle.rl_hir.specs.declared.instruction.Instruction.{Instruction}
 use Rattle.rl_hir.specs.declared.instruction.InstructionKind.{InstructionKind}
 use Rattle.rl_hir.specs.declared.instruction.InstructionKind.TheVariants as variables
-use Rattle.rl_hir.specs.declared.instruction.InstructionValue.{InstructionValue}
 use Rattle.rl_hir.specs.declared.instruction.InstructionValue.TheVariants as values
-use Rattle.rl_hir.specs.declared.instruction.Place.{Place}
 use Rattle.rl_hir.specs.declared.instruction.PrimitiveValue.TheVariants as primitives
-use Rattle.rl_hir.specs.Pieces.{Piece}
 use Rattle.rl_lowered.proofs.ChainFrames.{linked_lives, linked_state}
+use Rattle.rl_lowered.proofs.Common.{At, BlockId, End, InstructionValue, Names, Node, Piece, Pieces, Place, Said, Span, State, SymbolId}
+use Rattle.rl_lowered.proofs.Common.{Syntax, Then}
 use Rattle.rl_lowered.proofs.ItemBlocks.{ahead_stays, bound_stays, stays_met, stays_passes, taken_stays}
 use Rattle.rl_lowered.proofs.LiveFrames.{logical_lives, sequence_lives, ternary_lives}
 use Rattle.rl_lowered.specs.Forms.{Front, MemberKey, call_of, load_of, store_of, tested_front, type_of, typed}
@@ -38,7 +34,6 @@ use Rattle.rl_lowered.specs.Lowered.{LoweredBound, LoweredLater, LoweredMoved, L
 use Rattle.rl_lowered.specs.Lowered as lowered
 use Rattle.rl_lowered.specs.Named.{IsFound, found}
 use Rattle.rl_model.specs.Actions.{Label}
-use Rattle.rl_names.specs.Names.{Names}
 use Rattle.rl_optional_frames.proofs.Lives.{default_lives}
 use Rattle.rl_optional_frames.specs.Frames.{default_at, default_ended, link_at, link_objected}
 use Rattle.rl_optional_frames.specs.Parts.{default_begun, link_opened}
@@ -50,9 +45,8 @@ use Rattle.rl_runs.proofs.Passing.{passes_pushed, passes_refl, passes_then}
 use Rattle.rl_runs.proofs.Types.{blocks_typed}
 use Rattle.rl_runs.specs.Blocks.{Lives, Passes}
 use Rattle.rl_runs.specs.Facts.{Extends}
-use Rattle.rl_syntax.specs.declared.numbered.At.{At}
 use Rattle.rl_syntax.specs.declared.word.Word.TheVariants as word
-use Rattle.rl_syntax.specs.Syntax.{End, Listed, Node, Pieces, Said, Syntax, Then, span_of}
+use Rattle.rl_syntax.specs.Syntax.{Listed, span_of}
 use Rattle.rl_lowered.proofs.BlockMoves.{blocks_constant, blocks_found_value, blocks_member, blocks_noted_value, blocks_reloaded}
 use Rattle.rl_lowered.proofs.ExpressionBlocks.{all_blocks, bound_blocks, declarators_blocks, expression_blocks, front_blocks, last_blocks}
 use Rattle.rl_lowered.proofs.ExpressionBlocks.{later_blocks, params_blocks, pattern_blocks, target_blocks}

@@ -1,17 +1,14 @@
 -- Live nodes of binding patterns, parameters and declarations have an instruction in a block that is reached, where nothing was refused.
 use Rattle.std.proofs.Common.{◌≡◌, ◌++◌, Bool, true, List, [], Some, refl, ap, ◌∙◌, append-nil, append_assoc}
-use Rattle.rl_base.specs.declared.span.Span.{Span}
-use Rattle.rl_builder.specs.Builder.{State}
 use Rattle.rl_builder.specs.Temporaries.{with_value}
 use Rattle.rl_hir.specs.declared.function.Param.{Param}
 use Rattle.rl_hir.specs.declared.instruction.InstructionKind.{InstructionKind}
-use Rattle.rl_hir.specs.declared.instruction.InstructionValue.{InstructionValue}
 use Rattle.rl_hir.specs.declared.instruction.InstructionValue.TheVariants as values
-use Rattle.rl_hir.specs.declared.instruction.Place.{Place}
 use Rattle.rl_hir.specs.declared.instruction.PrimitiveValue.TheVariants as primitives
 use Rattle.rl_lowered.proofs.Blocks.{bound_blocks, declarators_blocks, params_blocks, pattern_blocks}
 use Rattle.rl_lowered.proofs.BoundSlots.{AreClean}
 use Rattle.rl_lowered.proofs.Clean.{first_none, param_clean, row_clean, second_none}
+use Rattle.rl_lowered.proofs.Common.{End, InstructionValue, Names, Node, Pieces, Place, Said, Span, State, Syntax, Then}
 use Rattle.rl_lowered.proofs.HeldItems.{binding_held, bound_held, kept_held, nothing_behind}
 use Rattle.rl_lowered.proofs.HeldParts.{bind_held, declarator_held}
 use Rattle.rl_lowered.proofs.ItemBlocks.{bound_stays, stays_met, stays_passes}
@@ -24,7 +21,6 @@ use Rattle.rl_lowered.specs.Lowered.{LoweredPattern, NextBound, NextDeclared, Ne
 use Rattle.rl_lowered.specs.Lowered.{NoParam, NothingBound, PatternParam, PlainParam, RestParam}
 use Rattle.rl_lowered.specs.Named.{found}
 use Rattle.rl_lowered.specs.Promised.{held_by}
-use Rattle.rl_names.specs.Names.{Names}
 use Rattle.rl_optional_frames.proofs.Lives.{default_lives}
 use Rattle.rl_optional_frames.specs.Frames.{default_at, default_ended}
 use Rattle.rl_promises.specs.Live.{Held, held_among, held_in}
@@ -33,7 +29,7 @@ use Rattle.rl_runs.proofs.Living.{lives_none, lives_refl, lives_then}
 use Rattle.rl_runs.proofs.Moves.{extends_resolved, extends_then, extends_value}
 use Rattle.rl_runs.specs.Blocks.{Lives}
 use Rattle.rl_syntax.specs.declared.word.Word.TheVariants as word
-use Rattle.rl_syntax.specs.Syntax.{Absent, End, Node, Pieces, Said, Syntax, Then}
+use Rattle.rl_syntax.specs.Syntax.{Absent}
 
 mutual
   pub pattern_lives : {names : Names} {again : Bool} {k : InstructionKind} {at : Span} {value : Place} {e : Syntax} {s t : State}

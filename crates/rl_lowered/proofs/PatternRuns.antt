@@ -1,14 +1,12 @@
 -- Lowered binding patterns have the runs of the source, where nothing of them was refused.
 use Rattle.std.proofs.Common.{◌≡◌, ℕ, Bool, true, false, List, [], length, Option, Some, sym, ap, ◌∙◌, subst}
-use Rattle.rl_base.specs.declared.ids.SymbolId.{SymbolId}
-use Rattle.rl_base.specs.declared.span.Span.{Span}
-use Rattle.rl_builder.specs.Builder.{State, innermost}
+use Rattle.rl_builder.specs.Builder.{innermost}
 use Rattle.rl_hir.specs.Pairs.{identifier_of}
 use Rattle.rl_hir.specs.declared.instruction.InstructionKind.{InstructionKind}
-use Rattle.rl_hir.specs.declared.instruction.Place.{Place}
 use Rattle.rl_lowered.proofs.ApartRuns.{binding_run}
 use Rattle.rl_lowered.proofs.Blocks.{bound_blocks, moved_blocks, pattern_blocks}
 use Rattle.rl_lowered.proofs.BoundSlots.{AreClean, bound_slots}
+use Rattle.rl_lowered.proofs.Common.{End, Names, Node, Place, Span, State, SymbolId, Syntax, Then}
 use Rattle.rl_lowered.proofs.ItemBlocks.{bound_stays, stays_met}
 use Rattle.rl_lowered.proofs.Runs.{moved_runs}
 use Rattle.rl_lowered.proofs.SlotRuns.{NextRun, NoneRun, RunsLater, on_dropped}
@@ -24,7 +22,6 @@ use Rattle.rl_model.specs.Actions.{◌>>=◌, Action}
 use Rattle.rl_model.specs.Expressions.{eval}
 use Rattle.rl_model.specs.Patterns.{bind, declare}
 use Rattle.rl_model.specs.Scene.{Scene}
-use Rattle.rl_names.specs.Names.{Names}
 use Rattle.rl_optional_frames.proofs.DefaultBlocks.{default_blocks}
 use Rattle.rl_optional_frames.proofs.DefaultRuns.{default_runs}
 use Rattle.rl_optional_frames.proofs.Meant.{pattern_meant}
@@ -38,7 +35,7 @@ use Rattle.rl_runs.proofs.Steps.{follows_then, since_start, throws_then}
 use Rattle.rl_runs.specs.Continuations.{between}
 use Rattle.rl_runs.specs.Facts.{Extends}
 use Rattle.rl_runs.specs.Simulation.{RunsExpression, RunsJumpless, RunsPattern}
-use Rattle.rl_syntax.specs.Syntax.{Syntax, Node, Listed, End, Then}
+use Rattle.rl_syntax.specs.Syntax.{Listed}
 
 met_bound : (again : Bool) (names : Names) (s : State) (symbol : SymbolId) (at : Span) (identifier : ℕ)
     → IsFound names s symbol at identifier

@@ -2,15 +2,13 @@
 -- of them was refused.
 use Rattle.std.proofs.Common.{◌≡◌, ◌+◌, ◌++◌, Bool, false, List, [], Some, refl}
 use Rattle.std.proofs.Common.{sym, ap, ◌∙◌, arith}
-use Rattle.rl_base.specs.declared.span.Span.{Span}
-use Rattle.rl_builder.specs.Builder.{State}
 use Rattle.rl_hir.specs.declared.instruction.Instruction.{Instruction}
 use Rattle.rl_hir.specs.declared.instruction.InstructionKind.{InstructionKind}
 use Rattle.rl_hir.specs.declared.instruction.InstructionValue.TheVariants as values
-use Rattle.rl_hir.specs.declared.instruction.Place.{Place}
 use Rattle.rl_hir.specs.declared.instruction.PrimitiveValue.TheVariants as primitives
 use Rattle.rl_lowered.proofs.Clean.{first_none}
 use Rattle.rl_lowered.proofs.Clean.{row_clean, second_none}
+use Rattle.rl_lowered.proofs.Common.{End, Names, Node, Pieces, Place, Said, Span, State, Syntax, Then}
 use Rattle.rl_lowered.proofs.HeldParts.{declarator_held}
 use Rattle.rl_lowered.proofs.HeldParts.{bind_held}
 use Rattle.rl_lowered.proofs.Sums.{added_initialized, added_inner}
@@ -23,7 +21,6 @@ use Rattle.rl_lowered.specs.Lowered.{NoDeclarator}
 use Rattle.rl_lowered.specs.Named.{found}
 use Rattle.rl_model.specs.Counted.{Counted}
 use Rattle.rl_model.specs.Worlds.{is_reassign}
-use Rattle.rl_names.specs.Names.{Names}
 use Rattle.rl_promises.specs.Held.{times}
 use Rattle.rl_promises.specs.Live.{Held, held_in}
 use Rattle.rl_promises.specs.Rows.{refusals, refusals_in}
@@ -31,7 +28,7 @@ use Rattle.rl_promises.specs.Tallies.{IsHeldKind}
 use Rattle.rl_promises.specs.Tallies.{tallied}
 use Rattle.rl_promises.specs.Tallies.{tallied_among}
 use Rattle.rl_syntax.specs.declared.word.Word.TheVariants as word
-use Rattle.rl_syntax.specs.Syntax.{Absent, End, Listed, Node, Pieces, Said, Syntax, Then}
+use Rattle.rl_syntax.specs.Syntax.{Absent, Listed}
 use Rattle.std.proofs.Common.{append-nil}
 use Rattle.rl_hir.specs.declared.function.Param.{Param}
 use Rattle.rl_lowered.proofs.BoundSlots.{AreClean}

@@ -2,15 +2,12 @@
 use Rattle.std.proofs.Common.{◌≡◌, ℕ, ◌++◌, Bool, false, true, List, [], ◌∷◌, None, Option, codes, unwrap_or, refl, sym, ap, ◌∙◌}
 use Rattle.rl_base.specs.declared.row.Row.{Row}
 use Rattle.rl_base.specs.declared.row.Row.TheVariants as row
-use Rattle.rl_base.specs.declared.span.Span.{Span}
-use Rattle.rl_builder.specs.Builder.{State}
-use Rattle.rl_hir.specs.declared.instruction.InstructionValue.{InstructionValue}
-use Rattle.rl_hir.specs.declared.instruction.Place.{Place}
 use Rattle.rl_hir.specs.declared.instruction.PrimitiveValue.{PrimitiveValue}
 use Rattle.rl_hir.specs.declared.terminal.ReturnVariant.TheVariants as returns
-use Rattle.rl_hir.specs.Pieces.{Piece, texts}
+use Rattle.rl_hir.specs.Pieces.{texts}
 use Rattle.rl_lowered.proofs.Clean.{computed_row_clean, fraction_row_never, property_row_clean, row_clean, spread_row_clean}
 use Rattle.rl_lowered.proofs.Clean.{unknown_row_never}
+use Rattle.rl_lowered.proofs.Common.{At, End, InstructionValue, Names, Node, Piece, Pieces, Place, Said, Span, State, Syntax, Then}
 use Rattle.rl_lowered.specs.Forms.{IsCast, IsForm, IsLiteral, IsMember, IsPrivate, IsRefused, IsRefusing, IsWrapper, MemberKey}
 use Rattle.rl_lowered.specs.Forms as forms
 use Rattle.rl_lowered.specs.Lowered.{Lowered, LoweredParts, part_span}
@@ -22,15 +19,13 @@ use Rattle.rl_model.specs.Expressions.{eval, one_value, values, values_of}
 use Rattle.rl_model.specs.Scene.{Scene}
 use Rattle.rl_model.specs.Shapes.{is_absent, is_computed, key_text, shape_of, shapes}
 use Rattle.rl_model.specs.Statements.{has_meaning}
-use Rattle.rl_names.specs.Names.{Names}
 use Rattle.rl_promises.specs.Live.{held_in, live_in_body}
 use Rattle.rl_promises.specs.Outs.{is_known_key}
 use Rattle.rl_promises.specs.Rebound.{span_behind_body}
 use Rattle.rl_promises.specs.Rows.{refusal, refusals, refusals_in, refusals_in_body, said_of_init, said_of_test}
-use Rattle.rl_syntax.specs.declared.numbered.At.{At}
 use Rattle.rl_syntax.specs.declared.word.Word.{Word}
 use Rattle.rl_syntax.specs.declared.word.Word.TheVariants as word
-use Rattle.rl_syntax.specs.Syntax.{Absent, Count, End, Flag, Listed, Node, Pieces, Said, Syntax, Then, span_of}
+use Rattle.rl_syntax.specs.Syntax.{Absent, Count, Flag, Listed, span_of}
 
 -- True of a node that is no declaration.
 abbrev pub is_operand : Syntax → Bool

@@ -4,12 +4,8 @@ use Rattle.std.proofs.Common.{append-nil, append_assoc, refl, sym, ap, ◌∙◌
 use Rattle.std.proofs.lemmas.Slice.Eq.{bytes_eq-Decides}
 use Rattle.std.specs.Option.{option_map, option_map_or}
 use Rattle.std.specs.Str.{bytes_eq}
-use Rattle.rl_base.specs.declared.diagnostic.Diagnostic.{Diagnostic}
-use Rattle.rl_base.specs.declared.ids.BlockId.{BlockId}
-use Rattle.rl_base.specs.declared.ids.SymbolId.{SymbolId}
 use Rattle.rl_base.specs.declared.operator.UpdateOperator.{UpdateOperator}
 use Rattle.rl_base.specs.declared.row.Row.TheVariants as row
-use Rattle.rl_base.specs.declared.span.Span.{Span}
 use Rattle.rl_base.specs.declared.type_kind.TypeKind.{TypeKind}
 use Rattle.rl_base.specs.declared.type_kind.TypeKind.TheVariants as types
 use Rattle.rl_base.specs.declared.variable_kind.VariableKind.{VariableKind}
@@ -17,23 +13,21 @@ use Rattle.rl_base.specs.declared.variable_kind.VariableKind.TheVariants as kind
 use Rattle.rl_base.specs.Diagnostics.{diagnostic_at}
 use Rattle.rl_base.specs.VariableKinds.{variable_text}
 use Rattle.rl_bindings.specs.declared.event.Bound.{Bound}
-use Rattle.rl_builder.specs.Builder.{State, entered, innermost, new_block, pushed, pushed_under, recorded, reserved, with_temporary}
+use Rattle.rl_builder.specs.Builder.{entered, innermost, new_block, pushed, pushed_under, recorded, reserved, with_temporary}
 use Rattle.rl_builder.specs.Names.{fbt_label, resolved_by}
 use Rattle.rl_builder.specs.Temporaries.{temporary, unordered, with_value}
 use Rattle.rl_frames.specs.Parts.{chain_reserved, logical_begun, logical_entered, logical_left, logical_place}
 use Rattle.rl_hir.specs.declared.function.BlockKind.TheVariants as blocks
 use Rattle.rl_hir.specs.declared.instruction.Instruction.{Instruction}
 use Rattle.rl_hir.specs.declared.instruction.InstructionKind.TheVariants as variables
-use Rattle.rl_hir.specs.declared.instruction.InstructionValue.{InstructionValue}
 use Rattle.rl_hir.specs.declared.instruction.InstructionValue.TheVariants as values
-use Rattle.rl_hir.specs.declared.instruction.Place.{Place}
 use Rattle.rl_hir.specs.declared.instruction.PrimitiveValue.TheVariants as primitives
 use Rattle.rl_hir.specs.Pairs.{identifier_of}
+use Rattle.rl_lowered.proofs.Common.{BlockId, Diagnostic, InstructionValue, Names, Place, Span, State, SymbolId}
 use Rattle.rl_lowered.specs.Forms.{MemberKey, load_of, store_of, typed}
 use Rattle.rl_lowered.specs.Lowered.{declaring, member_loaded, member_one}
 use Rattle.rl_lowered.specs.Lowered.{member_stored, member_updated}
 use Rattle.rl_lowered.specs.Named.{IsFound, TellDeclarations, found}
-use Rattle.rl_names.specs.Names.{Names}
 use Rattle.rl_optional_frames.specs.Frames.{LinkParts, link_ended}
 use Rattle.rl_optional_frames.specs.Parts.{link_opened, undefined_made}
 use Rattle.rl_promises.proofs.Covering.{none_in}

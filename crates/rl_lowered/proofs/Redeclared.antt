@@ -4,17 +4,15 @@ use Rattle.std.proofs.lemmas.Bool.Decides.{eqb_tells}
 use Rattle.std.proofs.lemmas.List.Elements.{All-get_or, All-set}
 use Rattle.std.proofs.lemmas.Option.{get_or_from_slice_get, none-some, slice_get_within}
 use Rattle.std.specs.Option.{option_map_or}
-use Rattle.rl_base.specs.declared.span.Span.{Span}
-use Rattle.rl_builder.specs.Builder.{State}
 use Rattle.rl_hir.proofs.Identifiers.{changed_at-past, changed_at-set, length-changed_at, slice_get-changed_at_other}
 use Rattle.rl_hir.proofs.Identifiers.{slice_get-changed_at_same}
 use Rattle.rl_hir.specs.Identifiers.{changed_at, with_span}
 use Rattle.rl_hir.specs.declared.function.Identifier.{Identifier}
 use Rattle.rl_hir.specs.declared.function.IdentifierName.{IdentifierName}
 use Rattle.rl_hir.specs.declared.function.Pair.{Pair}
+use Rattle.rl_lowered.proofs.Common.{Names, Span, State}
 use Rattle.rl_lowered.specs.Items.{redeclared}
 use Rattle.rl_lowered.specs.Named.{HasAgain, KeepsNames}
-use Rattle.rl_names.specs.Names.{Names}
 use Rattle.rl_promises.specs.Fields.{IsNamedPair, name_at}
 use Rattle.rl_runs.proofs.BlockIds.{ids_refl}
 use Rattle.rl_runs.proofs.FinalNames.{names_refl}

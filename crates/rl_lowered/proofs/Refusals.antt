@@ -5,31 +5,26 @@ use Rattle.std.proofs.lemmas.Slice.Eq.{bytes_eq-Decides}
 use Rattle.std.specs.Str.{bytes_eq}
 use Rattle.rl_base.specs.Diagnostics.{diagnostic_at}
 use Rattle.rl_base.specs.Operators.{assignment_text, unary_text}
-use Rattle.rl_base.specs.declared.diagnostic.Diagnostic.{Diagnostic}
-use Rattle.rl_base.specs.declared.ids.SymbolId.{SymbolId}
 use Rattle.rl_base.specs.declared.operator.AssignmentOperator.{AssignmentOperator}
 use Rattle.rl_base.specs.declared.operator.AssignmentOperator.TheVariants as assignments
 use Rattle.rl_base.specs.declared.operator.BinaryOperator.{BinaryOperator}
 use Rattle.rl_base.specs.declared.operator.UnaryOperator.{UnaryOperator}
 use Rattle.rl_base.specs.declared.row.Row.{Row}
 use Rattle.rl_base.specs.declared.row.Row.TheVariants as row
-use Rattle.rl_base.specs.declared.span.Span.{Span}
 use Rattle.rl_grammar.proofs.Viewing.{rest_fit}
 use Rattle.rl_grammar.specs.Grammar.{every}
 use Rattle.rl_grammar.specs.declared.kind.Kind.TheVariants as sort
-use Rattle.rl_hir.specs.Pieces.{Piece}
-use Rattle.rl_hir.specs.declared.instruction.InstructionValue.{InstructionValue}
 use Rattle.rl_hir.specs.declared.instruction.NonLocalBinding.{NonLocalBinding}
-use Rattle.rl_hir.specs.declared.instruction.Place.{Place}
 use Rattle.rl_hir.specs.declared.instruction.PrimitiveValue.{PrimitiveValue}
 use Rattle.rl_hir.specs.declared.instruction.TemplateQuasi.{TemplateQuasi}
+use Rattle.rl_lowered.proofs.Common.{At, Diagnostic, End, InstructionValue, Names, Node, Piece, Pieces, Place, Said, Span, SymbolId, Syntax}
+use Rattle.rl_lowered.proofs.Common.{Then}
 use Rattle.rl_lowered.proofs.Keys.{Bracketed, HasText, Name, Number, Word, has_text}
 use Rattle.rl_lowered.specs.Forms.{AreQuasis, IsAnnotation, IsCast, IsForm, IsInside, IsLiteral, IsMember, IsPrivate, IsRefused, IsRefusing}
 use Rattle.rl_lowered.specs.Forms.{IsWrapper, MemberKey, applied_by}
 use Rattle.rl_lowered.specs.Forms as forms
 use Rattle.rl_model.specs.Applied.{deletes}
 use Rattle.rl_model.specs.Shapes.{is_link, is_logical, key_text}
-use Rattle.rl_names.specs.Names.{Names}
 use Rattle.rl_names.specs.declared.names.Meaning.{Meaning}
 use Rattle.rl_names.specs.declared.names.Meaning.TheVariants.{Local, Outer}
 use Rattle.rl_promises.proofs.CoveredForms.{none_fits}
@@ -39,8 +34,7 @@ use Rattle.rl_promises.specs.Rows.{is_eval, label_of, refusal, refusals, refusal
 use Rattle.rl_promises.specs.Rows.{said_of_assigned, said_of_local, said_of_name, said_of_stored, said_of_target, said_of_update}
 use Rattle.rl_promises.specs.Rows.{said_of_updated}
 use Rattle.rl_semantic.specs.Items.{of_item}
-use Rattle.rl_syntax.specs.Syntax.{Syntax, Node, Listed, Said, Flag, Absent, Pieces, End, Then, span_of}
-use Rattle.rl_syntax.specs.declared.numbered.At.{At}
+use Rattle.rl_syntax.specs.Syntax.{Listed, Flag, Absent, span_of}
 use Rattle.rl_syntax.specs.declared.word.Word.{Word as NodeWord}
 use Rattle.rl_syntax.specs.declared.word.Word.TheVariants as word
 use Rattle.rl_text.specs.Numeral.{is_numeral}

@@ -1,14 +1,10 @@
 -- The diagnostics that the lowering of a part records: the part's refusals, in the order of the walk.
 use Rattle.std.proofs.Common.{◌≡◌, ℕ, ◌+◌, ◌++◌, Bool, true, false, if◌then◌else◌, List, [], ◌∷◌, Option, Some, None}
 use Rattle.std.proofs.Common.{append-nil, append_assoc, refl, ap, ◌∙◌, subst, is_some}
-use Rattle.rl_base.specs.declared.diagnostic.Diagnostic.{Diagnostic}
-use Rattle.rl_base.specs.declared.ids.BlockId.{BlockId}
-use Rattle.rl_base.specs.declared.ids.SymbolId.{SymbolId}
 use Rattle.rl_base.specs.declared.row.Row.TheVariants as row
-use Rattle.rl_base.specs.declared.span.Span.{Span}
 use Rattle.rl_base.specs.Diagnostics.{diagnostic_at}
 use Rattle.rl_base.specs.Operators.{update_text}
-use Rattle.rl_builder.specs.Builder.{State, innermost, recorded, reserved}
+use Rattle.rl_builder.specs.Builder.{innermost, recorded, reserved}
 use Rattle.rl_builder.specs.Temporaries.{temporary, with_value}
 use Rattle.rl_frames.specs.Frames.{LogicalParts, TernaryParts, logical_at, sequence_at, ternary_at}
 use Rattle.rl_frames.specs.Parts.{loads, try_handler}
@@ -16,16 +12,15 @@ use Rattle.rl_frames.specs.Rounds.{ForOfParts, RoundsParts, forin_at, forin_head
 use Rattle.rl_frames.specs.Rounds.{forof_tested, rounds_shut}
 use Rattle.rl_hir.specs.declared.instruction.InstructionKind.{InstructionKind}
 use Rattle.rl_hir.specs.declared.instruction.InstructionKind.TheVariants as variables
-use Rattle.rl_hir.specs.declared.instruction.InstructionValue.{InstructionValue}
 use Rattle.rl_hir.specs.declared.instruction.InstructionValue.TheVariants as values
-use Rattle.rl_hir.specs.declared.instruction.Place.{Place}
 use Rattle.rl_hir.specs.declared.instruction.PrimitiveValue.TheVariants as primitives
 use Rattle.rl_hir.specs.declared.terminal.Case.{Case}
-use Rattle.rl_hir.specs.Pieces.{Piece}
 use Rattle.rl_lowered.proofs.Blocks.{blocks_caught, cases_blocks, declares_of, expression_blocks, init_blocks, statement_blocks}
 use Rattle.rl_lowered.proofs.Catches.{catch_declared, declares_caught, stores_caught}
 use Rattle.rl_lowered.proofs.Clean.{finalizer_said}
 use Rattle.rl_lowered.proofs.CleanChains.{spine_place}
+use Rattle.rl_lowered.proofs.Common.{At, BlockId, Diagnostic, End, InstructionValue, Names, Node, Piece, Pieces, Place, Said, Span, State}
+use Rattle.rl_lowered.proofs.Common.{SymbolId, Syntax, Then}
 use Rattle.rl_lowered.proofs.Plain.{init_said, lowered_plain, test_unsaid}
 use Rattle.rl_lowered.proofs.ItemRefused.{bound_refused, left_rows, left_rows_are, met_refused, pattern_rows}
 use Rattle.rl_lowered.proofs.TakenRefused.{left_taken, left_taken_are, look_refused, taken_refused, taking_rows}
@@ -60,7 +55,6 @@ use Rattle.rl_lowered.specs.Lowered as lowered
 use Rattle.rl_lowered.specs.Named.{IsFound, found}
 use Rattle.rl_model.specs.Actions.{Label}
 use Rattle.rl_names.specs.declared.names.Meaning.TheVariants.{Local}
-use Rattle.rl_names.specs.Names.{Names}
 use Rattle.rl_optional_frames.specs.Frames.{LinkParts, link_after, link_at, link_objected}
 use Rattle.rl_optional_frames.specs.Parts.{undefined_made}
 use Rattle.rl_promises.specs.Chains.{Below, Top}
@@ -72,9 +66,8 @@ use Rattle.rl_promises.specs.Rows.{said_of_local, said_of_test, said_of_throw}
 use Rattle.rl_runs.proofs.Holes.{last_added}
 use Rattle.rl_runs.proofs.Moves.{extends_value}
 use Rattle.rl_runs.specs.Moves.{block_id}
-use Rattle.rl_syntax.specs.declared.numbered.At.{At}
 use Rattle.rl_syntax.specs.declared.word.Word.TheVariants as word
-use Rattle.rl_syntax.specs.Syntax.{Absent, End, Flag, Node, Pieces, Said, Syntax, Then, span_of}
+use Rattle.rl_syntax.specs.Syntax.{Absent, Flag, span_of}
 
 pub moved_unsaid : (names : Names) (e : Syntax) → may_move names e ≡ true → said_of_moved names e ≡ []
 moved_unsaid names (Node at w fields) is =

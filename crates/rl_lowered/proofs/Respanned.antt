@@ -4,10 +4,8 @@ use Rattle.std.proofs.Common.{eq-eqb}
 use Rattle.std.proofs.lemmas.Bool.{ne_eqb}
 use Rattle.std.proofs.lemmas.Bool.Decides.{eqb_tells}
 use Rattle.std.proofs.lemmas.Option.{same_Some}
-use Rattle.rl_base.specs.declared.ids.SymbolId.{SymbolId}
-use Rattle.rl_base.specs.declared.span.Span.{Span}
 use Rattle.rl_builder.proofs.NameLaws.{name_of-injective}
-use Rattle.rl_builder.specs.Builder.{State, recorded, with_temporary}
+use Rattle.rl_builder.specs.Builder.{recorded, with_temporary}
 use Rattle.rl_builder.specs.Names.{resolved_by}
 use Rattle.rl_hir.proofs.Identifiers.{slice_get-changed_at_other, slice_get-changed_at_same}
 use Rattle.rl_hir.specs.declared.function.Identifier.{Identifier}
@@ -17,18 +15,17 @@ use Rattle.rl_hir.specs.Pairs.{identifier_of}
 use Rattle.rl_lowered.proofs.Carrying.{IsCarried, Naming, at_symbol, naming, unchanged}
 use Rattle.rl_lowered.proofs.Carried.{body_carried, params_carried}
 use Rattle.rl_lowered.proofs.Catches.{extends_promoted}
+use Rattle.rl_lowered.proofs.Common.{Names, Pieces, Span, State, SymbolId, Syntax}
 use Rattle.rl_lowered.proofs.Names.{found_within}
 use Rattle.rl_lowered.proofs.Redeclared.{extends_redeclared}
 use Rattle.rl_lowered.specs.Items.{found_again, promoted, redeclared}
 use Rattle.rl_lowered.specs.Lowered.{LoweredBody, LoweredParams}
 use Rattle.rl_lowered.specs.Named.{IsFound, Respans, found}
-use Rattle.rl_names.specs.Names.{Names}
 use Rattle.rl_promises.specs.Fields.{name_at}
 use Rattle.rl_promises.specs.Rebound.{span_behind_body}
 use Rattle.rl_runs.proofs.Moves.{extends_recorded, extends_resolved, extends_temporary}
 use Rattle.rl_runs.proofs.Steps.{get_more}
 use Rattle.rl_runs.specs.Facts.{AreSoundNames, Extends, HasSoundNames}
-use Rattle.rl_syntax.specs.Syntax.{Pieces, Syntax}
 
 -- The identifiers of symbols, behind a part.
 

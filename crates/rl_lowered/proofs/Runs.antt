@@ -2,16 +2,12 @@
 use Rattle.std.proofs.Common.{◌≡◌, ℕ, ◌++◌, ◌&&◌, Bool, true, false, if◌then◌else◌, is_some, List, [], ◌∷◌, length, map, true≢false}
 use Rattle.std.proofs.Common.{codes, Option, Some, refl, sym, ap, ◌∙◌, subst}
 use Rattle.rl_base.specs.Operators.{logical_text, operator_text, update_text}
-use Rattle.rl_base.specs.declared.ids.BlockId.{BlockId}
-use Rattle.rl_base.specs.declared.ids.SymbolId.{SymbolId}
 use Rattle.rl_base.specs.declared.operator.LogicalOperator.{LogicalOperator}
 use Rattle.rl_base.specs.declared.operator.LogicalOperator.TheVariants as logical
 use Rattle.rl_base.specs.declared.operator.UpdateOperator.{UpdateOperator}
 use Rattle.rl_base.specs.declared.operator.UpdateOperator.TheVariants as updates
-use Rattle.rl_base.specs.declared.span.Span.{Span}
 use Rattle.rl_base.specs.declared.type_kind.TypeKind.{TypeKind}
 use Rattle.rl_base.specs.declared.type_kind.TypeKind.TheVariants as types
-use Rattle.rl_builder.specs.Builder.{State}
 use Rattle.rl_builder.specs.Temporaries.{temporary, with_value}
 use Rattle.rl_frames.proofs.Logicals.{logical_runs}
 use Rattle.rl_frames.proofs.Meant.{and_meant, coalesce_meant, cond_meant, or_meant}
@@ -23,13 +19,12 @@ use Rattle.rl_hir.specs.declared.instruction.InstructionValue.TheVariants as val
 use Rattle.rl_hir.specs.declared.instruction.NonLocalBinding.{NonLocalBinding}
 use Rattle.rl_hir.specs.declared.instruction.NonLocalBinding.TheVariants as bindings
 use Rattle.rl_hir.specs.declared.instruction.ObjectProperty.{ObjectProperty}
-use Rattle.rl_hir.specs.declared.instruction.Place.{Place}
 use Rattle.rl_hir.specs.declared.instruction.PlaceOrSpread.{PlaceOrSpread}
 use Rattle.rl_hir.specs.declared.instruction.PrimitiveValue.{PrimitiveValue}
 use Rattle.rl_hir.specs.declared.instruction.PrimitiveValue.TheVariants as primitives
 use Rattle.rl_hir.specs.declared.instruction.PropertyLiteral.TheVariants as keys
 use Rattle.rl_hir.specs.Instructions.{binding_texts}
-use Rattle.rl_hir.specs.Pieces.{Piece, argument_pieces, gathered, property_pieces, texts}
+use Rattle.rl_hir.specs.Pieces.{argument_pieces, gathered, property_pieces, texts}
 use Rattle.rl_lowered.proofs.ApartRuns.{defaulted_whole, lost_whole, pattern_assigned, taking_run}
 use Rattle.rl_lowered.proofs.AssignmentRuns.{assigned_member_runs, behind_runs, combined, combined_runs, compound_member_runs}
 use Rattle.rl_lowered.proofs.AssignmentRuns.{name_compound, name_written, outer_runs, reloaded_runs, variable_runs}
@@ -46,6 +41,7 @@ use Rattle.rl_lowered.proofs.Clean.{private_assigned_never, private_clean, priva
 use Rattle.rl_lowered.proofs.Clean.{second_none, unknown_row_never, updated_member_clean, wrapper_clean}
 use Rattle.rl_lowered.proofs.CleanChains.{asserted_clean, below_off, broken_never, call_link_clean, method_front_clean}
 use Rattle.rl_lowered.proofs.CleanChains.{private_link_never, property_link_clean, spine_below, spine_place}
+use Rattle.rl_lowered.proofs.Common.{At, BlockId, End, Names, Node, Piece, Pieces, Place, Said, Span, State, SymbolId, Syntax, Then}
 use Rattle.rl_lowered.proofs.Forms.{event_with, form_acts, form_event, given_values, identifiers_in, key_by, load_acts, object_acts, store_acts}
 use Rattle.rl_lowered.proofs.ItemBlocks.{ahead_stays, taken_stays}
 use Rattle.rl_lowered.proofs.Keys.{HasText, Name, has_text}
@@ -86,7 +82,6 @@ use Rattle.rl_model.specs.Expressions.{call_kind, callee, eval, eval_last, first
 use Rattle.rl_model.specs.Expressions.{update_name, update_property, values as values_in}
 use Rattle.rl_model.specs.Scene.{Scene}
 use Rattle.rl_model.specs.Shapes.{first_character, is_computed, key_text, lends_receiver, shapes}
-use Rattle.rl_names.specs.Names.{Names}
 use Rattle.rl_names.specs.declared.names.Meaning.{Meaning}
 use Rattle.rl_names.specs.declared.names.Meaning.TheVariants.{Local, Outer}
 use Rattle.rl_optional_frames.proofs.DefaultBlocks.{default_blocks}
@@ -107,10 +102,9 @@ use Rattle.rl_runs.proofs.Types.{cast_runs, variable_cast_runs}
 use Rattle.rl_runs.proofs.Variables.{postfix_runs, prefix_runs, read_runs}
 use Rattle.rl_runs.specs.Facts.{Extends}
 use Rattle.rl_runs.specs.Simulation.{RunsAll, RunsExpression, RunsLinks, RunsOn, RunsPattern}
-use Rattle.rl_syntax.specs.declared.numbered.At.{At}
 use Rattle.rl_syntax.specs.declared.word.Word.{Word}
 use Rattle.rl_syntax.specs.declared.word.Word.TheVariants as word
-use Rattle.rl_syntax.specs.Syntax.{Syntax, Node, Listed, Said, Flag, Pieces, End, Then, span_of}
+use Rattle.rl_syntax.specs.Syntax.{Listed, Flag, span_of}
 use Rattle.rl_text.specs.Numeral.{number_of}
 
 -- Literals, wrappers and names.

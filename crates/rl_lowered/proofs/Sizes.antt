@@ -1,17 +1,14 @@
 -- The numbers of blocks, types, identifiers and instructions that the lowering of a part adds, together: a bound by the part's nodes.
 use Rattle.std.proofs.Common.{ℕ, ◌+◌, ◌≤◌, Bool, true, false, Option, Some, None, List, ◌*◌, length, arith}
-use Rattle.rl_base.specs.declared.ids.BlockId.{BlockId}
-use Rattle.rl_base.specs.declared.ids.SymbolId.{SymbolId}
 use Rattle.rl_base.specs.declared.operator.UpdateOperator.{UpdateOperator}
 use Rattle.rl_base.specs.declared.row.Row.{Row}
 use Rattle.rl_base.specs.declared.row.Row.TheVariants as row
-use Rattle.rl_base.specs.declared.span.Span.{Span}
 use Rattle.rl_base.specs.declared.type_kind.TypeKind.{TypeKind}
 use Rattle.rl_base.specs.declared.type_kind.TypeKind.TheVariants as types
 use Rattle.rl_base.specs.declared.variable_kind.VariableKind.{VariableKind}
 use Rattle.rl_base.specs.declared.variable_kind.VariableKind.TheVariants as kinds
 use Rattle.rl_base.specs.Diagnostics.{diagnostic_at}
-use Rattle.rl_builder.specs.Builder.{State, recorded}
+use Rattle.rl_builder.specs.Builder.{recorded}
 use Rattle.rl_builder.specs.Temporaries.{temporary, with_value}
 use Rattle.rl_frames.proofs.FrameSizes.{if_alternate_size, if_begun_size, if_consequent_size, logical_begun_size, logical_ended_size}
 use Rattle.rl_frames.proofs.FrameSizes.{logical_righted_size, sequence_begun_size, sequence_ended_size, ternary_alternated_size}
@@ -22,13 +19,11 @@ use Rattle.rl_frames.specs.Frames.{ternary_at, ternary_parted}
 use Rattle.rl_hir.specs.declared.function.Param.{Param}
 use Rattle.rl_hir.specs.declared.instruction.InstructionKind.{InstructionKind}
 use Rattle.rl_hir.specs.declared.instruction.InstructionKind.TheVariants as variables
-use Rattle.rl_hir.specs.declared.instruction.InstructionValue.{InstructionValue}
 use Rattle.rl_hir.specs.declared.instruction.InstructionValue.TheVariants as values
-use Rattle.rl_hir.specs.declared.instruction.Place.{Place}
 use Rattle.rl_hir.specs.declared.instruction.PrimitiveValue.TheVariants as primitives
 use Rattle.rl_hir.specs.declared.terminal.Case.{Case}
-use Rattle.rl_hir.specs.Pieces.{Piece}
 use Rattle.rl_lowered.proofs.Catches.{size_promoted, size_throwing, stores_caught}
+use Rattle.rl_lowered.proofs.Common.{BlockId, InstructionValue, Names, Piece, Pieces, Place, Span, State, SymbolId, Syntax}
 use Rattle.rl_lowered.proofs.ItemSizes.{ahead_size, bound_size, met_size, taken_size}
 use Rattle.rl_lowered.proofs.LookSizes.{found_size}
 use Rattle.rl_lowered.proofs.Redeclared.{size_redeclared}
@@ -47,7 +42,6 @@ use Rattle.rl_lowered.specs.Lowered as lowered
 use Rattle.rl_lowered.specs.Named.{found}
 use Rattle.rl_lowered.specs.Promised.{nodes_left, share}
 use Rattle.rl_model.specs.Actions.{Label}
-use Rattle.rl_names.specs.Names.{Names}
 use Rattle.rl_optional_frames.proofs.Sizes.{default_size, inner_link_size, outer_link_size}
 use Rattle.rl_optional_frames.specs.Frames.{link_after, link_at, link_ended, link_objected}
 use Rattle.rl_optional_frames.specs.Parts.{link_opened}
@@ -55,7 +49,7 @@ use Rattle.rl_promises.specs.Rows.{refusal}
 use Rattle.rl_runs.proofs.Sizes.{size_temporary, size_value}
 use Rattle.rl_runs.specs.Blocks.{size_of}
 use Rattle.rl_syntax.specs.declared.word.Word.{Word}
-use Rattle.rl_syntax.specs.Syntax.{Pieces, Syntax, nodes, nodes_of, span_of}
+use Rattle.rl_syntax.specs.Syntax.{nodes, nodes_of, span_of}
 
 typed_size : (s : State) (k : TypeKind) → size_of (typed s k) ≤ size_of s + 1
 typed_size s types.Array = omega arith

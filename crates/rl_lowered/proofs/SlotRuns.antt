@@ -2,15 +2,13 @@
 -- its turn.
 use Rattle.std.proofs.Common.{◌≡◌, ℕ, ◌+◌, ◌<◌, ◌≤◌, inl, List, [], ◌∷◌, length, map, codes, Some, refl, sym, ap, ◌∙◌, subst}
 use Rattle.std.proofs.Common.{arith}
-use Rattle.rl_base.specs.declared.span.Span.{Span}
-use Rattle.rl_builder.specs.Builder.{State, innermost}
+use Rattle.rl_builder.specs.Builder.{innermost}
 use Rattle.rl_builder.specs.Temporaries.{with_value}
 use Rattle.rl_builder.specs.declared.blocks.WipBlock.{WipBlock}
 use Rattle.rl_hir.specs.Pieces.{operands, pattern_pieces, texts}
 use Rattle.rl_hir.specs.declared.instruction.InstructionKind.{InstructionKind}
-use Rattle.rl_hir.specs.declared.instruction.InstructionValue.{InstructionValue}
 use Rattle.rl_hir.specs.declared.instruction.Pattern.{Pattern}
-use Rattle.rl_hir.specs.declared.instruction.Place.{Place}
+use Rattle.rl_lowered.proofs.Common.{InstructionValue, Place, Span, State, Syntax}
 use Rattle.rl_lowered.specs.Items.{Later, destructured}
 use Rattle.rl_machine.specs.Acts.{Asks, Landing, act, landed, targets}
 use Rattle.rl_machine.specs.Ends.{Notes}
@@ -30,7 +28,6 @@ use Rattle.rl_runs.proofs.Steps.{follows_then, later_refl, set_other, set_same, 
 use Rattle.rl_runs.specs.Continuations.{Agrees, Continues, Follows, Range, SharesVariables, Since, Throws, TracesAt, TracesFrom, between}
 use Rattle.rl_runs.specs.Facts.{AreOne, Extends, HasSoundNames, IsContainedIn, Nobody}
 use Rattle.rl_runs.specs.Simulation.{RunsExpression, RunsOn, RunsPattern}
-use Rattle.rl_syntax.specs.Syntax.{Syntax}
 
 -- A place that takes a piece: a variable, or the temporary of a part that was left.
 pub data Slot : Type 0 where

@@ -4,15 +4,11 @@ use Rattle.std.proofs.Common.{sym, subst, arith}
 use Rattle.std.proofs.lemmas.List.Elements.{All-cons, All-head, All-nil, All-tail, All-weaker}
 use Rattle.rl_base.specs.Diagnostics.{diagnostic_at}
 use Rattle.rl_base.specs.Operators.{assignment_text, logical_text, update_text}
-use Rattle.rl_base.specs.declared.diagnostic.Diagnostic.{Diagnostic}
-use Rattle.rl_base.specs.declared.ids.BlockId.{BlockId}
-use Rattle.rl_base.specs.declared.ids.SymbolId.{SymbolId}
 use Rattle.rl_base.specs.declared.operator.LogicalOperator.{LogicalOperator}
 use Rattle.rl_base.specs.declared.operator.UpdateOperator.{UpdateOperator}
 use Rattle.rl_base.specs.declared.row.Row.TheVariants as row
-use Rattle.rl_base.specs.declared.span.Span.{Span}
 use Rattle.rl_base.specs.declared.type_kind.TypeKind.{TypeKind}
-use Rattle.rl_builder.specs.Builder.{State, recorded}
+use Rattle.rl_builder.specs.Builder.{recorded}
 use Rattle.rl_builder.specs.Temporaries.{temporary, with_value}
 use Rattle.rl_frames.specs.Frames.{logical_after, logical_at, logical_ended, logical_righted}
 use Rattle.rl_frames.specs.Frames.{sequence_at, sequence_ended}
@@ -20,27 +16,25 @@ use Rattle.rl_frames.specs.Frames.{ternary_after, ternary_alternated, ternary_at
 use Rattle.rl_frames.specs.Parts.{logical_begun, logical_place, sequence_begun, sequence_place, ternary_begun, ternary_place}
 use Rattle.rl_hir.specs.Instructions.{binding_texts}
 use Rattle.rl_hir.specs.Listing as listing
-use Rattle.rl_hir.specs.Pieces.{Piece, Says, argument_pieces, gathered, operands}
+use Rattle.rl_hir.specs.Pieces.{Says, argument_pieces, gathered, operands}
 use Rattle.rl_hir.specs.declared.instruction.InstructionKind.TheVariants as kinds
-use Rattle.rl_hir.specs.declared.instruction.InstructionValue.{InstructionValue}
 use Rattle.rl_hir.specs.declared.instruction.InstructionValue.TheVariants as values
 use Rattle.rl_hir.specs.declared.instruction.NonLocalBinding.{NonLocalBinding}
-use Rattle.rl_hir.specs.declared.instruction.Place.{Place}
 use Rattle.rl_hir.specs.declared.instruction.PlaceOrSpread.{PlaceOrSpread}
 use Rattle.rl_hir.specs.declared.instruction.PrimitiveValue.TheVariants as primitives
+use Rattle.rl_lowered.proofs.Common.{At, BlockId, Diagnostic, End, InstructionValue, Names, Node, Piece, Pieces, Place, Said, Span, State}
+use Rattle.rl_lowered.proofs.Common.{SymbolId, Syntax, Then}
 use Rattle.rl_model.specs.WellFormed.{AreKnown, operand_places, value_places}
 use Rattle.rl_names.specs.Locals.{HasTexts}
-use Rattle.rl_names.specs.Names.{Names}
 use Rattle.rl_names.specs.declared.names.Meaning.TheVariants.{Outer}
 use Rattle.rl_optional_frames.specs.Frames.{default_at, default_ended, link_at, link_objected}
 use Rattle.rl_optional_frames.specs.Parts.{default_begun}
 use Rattle.rl_promises.specs.Locals.{IsSmallSpan, KnowsNames}
 use Rattle.rl_promises.specs.Moved.{type_name}
 use Rattle.rl_promises.specs.Rows.{refusal, row_of_head}
-use Rattle.rl_syntax.specs.declared.numbered.At.{At}
 use Rattle.rl_syntax.specs.declared.word.Word.{Word}
 use Rattle.rl_syntax.specs.declared.word.Word.TheVariants as word
-use Rattle.rl_syntax.specs.Syntax.{Syntax, Node, Listed, Said, Flag, Pieces, End, Then, span_of}
+use Rattle.rl_syntax.specs.Syntax.{Listed, Flag, span_of}
 use Rattle.rl_text.specs.Notation.{IsWritable}
 use Rattle.rl_lowered.specs.Forms.{Front, Lent, call_of, front_places, is_property, tested_front}
 use Rattle.rl_lowered.specs.Forms.{IsForm, IsMember, Indexed, MemberKey, Numbered, Static, load_of, places_in, type_of, typed}

@@ -6,19 +6,15 @@ use Rattle.rl_base.proofs.ClosedTexts.{text_utf8}
 use Rattle.rl_base.specs.Diagnostics.{diagnostic_at}
 use Rattle.rl_base.specs.FoundOperators.{operators_found}
 use Rattle.rl_base.specs.Operators.{operator_text, operators}
-use Rattle.rl_base.specs.declared.diagnostic.Diagnostic.{Diagnostic}
-use Rattle.rl_base.specs.declared.ids.SymbolId.{SymbolId}
 use Rattle.rl_base.specs.declared.operator.BinaryOperator.{BinaryOperator}
 use Rattle.rl_base.specs.declared.row.Row.TheVariants as row
-use Rattle.rl_base.specs.declared.span.Span.{Span}
-use Rattle.rl_builder.specs.Builder.{State, recorded}
+use Rattle.rl_builder.specs.Builder.{recorded}
 use Rattle.rl_builder.specs.Temporaries.{temporary, with_value}
 use Rattle.rl_hir.specs.Listing as listing
-use Rattle.rl_hir.specs.Pieces.{Piece}
 use Rattle.rl_hir.specs.declared.instruction.InstructionKind.TheVariants as kinds
 use Rattle.rl_hir.specs.declared.instruction.InstructionValue.TheVariants as values
-use Rattle.rl_hir.specs.declared.instruction.Place.{Place}
 use Rattle.rl_hir.specs.declared.instruction.PrimitiveValue.TheVariants as primitives
+use Rattle.rl_lowered.proofs.Common.{At, Diagnostic, End, Names, Node, Piece, Pieces, Place, Said, Span, State, SymbolId, Syntax, Then}
 use Rattle.rl_lowered.proofs.SoundForms.{global_store_writable, member_small}
 use Rattle.rl_lowered.proofs.SoundListing.{binary_writable, local_writable, undefined_writable}
 use Rattle.rl_lowered.proofs.SoundMoves.{none_known, one_known, place_later, place_next, place_weaker, sound_next, sound_recorded}
@@ -31,13 +27,11 @@ use Rattle.rl_lowered.specs.Items.{variable_at}
 use Rattle.rl_lowered.specs.Lowered.{assigned_to, member_assigned, member_computed, name_computed, name_found, name_reloaded, name_stored}
 use Rattle.rl_lowered.specs.Named.{IsFound, found}
 use Rattle.rl_lowered.specs.Sound.{AreSmallTrees, IsSmallTree, IsSoundPlace, StaysSound}
-use Rattle.rl_names.specs.Names.{Names}
 use Rattle.rl_promises.specs.Locals.{IsSmallSpan}
 use Rattle.rl_promises.specs.Rows.{refusal}
-use Rattle.rl_syntax.specs.declared.numbered.At.{At}
 use Rattle.rl_syntax.specs.declared.word.Word.{Word}
 use Rattle.rl_syntax.specs.declared.word.Word.TheVariants as word
-use Rattle.rl_syntax.specs.Syntax.{Syntax, Node, Said, Flag, Pieces, End, Then}
+use Rattle.rl_syntax.specs.Syntax.{Flag}
 use Rattle.rl_text.specs.Notation.{IsWritable}
 
 -- Undefined stands for what is refused.

@@ -2,24 +2,21 @@
 use Rattle.std.proofs.Common.{ℕ, ◌-◌, ◌<◌, ◌≤◌, ◌++◌, Bool, true, false, List, [], ◌∷◌, All, length, Option, Some, None, refl, sym}
 use Rattle.std.proofs.Common.{ap, subst, arith, append-nil, is_some, lit<}
 use Rattle.std.proofs.lemmas.List.Elements.{All-append, All-cons, All-push, All-take, All-head, All-tail}
-use Rattle.rl_base.specs.declared.ids.BlockId.{BlockId}
-use Rattle.rl_base.specs.declared.ids.SymbolId.{SymbolId}
 use Rattle.rl_base.specs.declared.row.Row.TheVariants as row
-use Rattle.rl_base.specs.declared.span.Span.{Span}
-use Rattle.rl_builder.specs.Builder.{State, completed_by, entered, innermost, new_block, reserved}
+use Rattle.rl_builder.specs.Builder.{completed_by, entered, innermost, new_block, reserved}
 use Rattle.rl_builder.specs.declared.jumps.JumpScope.TheVariants as scope
 use Rattle.rl_frames.specs.Frames.{try_after, try_at, try_caught, try_ended}
 use Rattle.rl_frames.specs.Parts.{try_begun, try_end, try_handler, try_started}
 use Rattle.rl_frames.specs.SwitchParts.{case_begun, case_ended, fall_of, switch_begun, switch_end, switch_finished, with_default}
 use Rattle.rl_hir.specs.declared.function.BlockKind.TheVariants as block
 use Rattle.rl_hir.specs.declared.instruction.InstructionKind.TheVariants as kinds
-use Rattle.rl_hir.specs.declared.instruction.Place.{Place}
 use Rattle.rl_hir.specs.declared.terminal.Case.{Case}
 use Rattle.rl_hir.specs.declared.terminal.GotoVariant.TheVariants as gotos
 use Rattle.rl_hir.specs.declared.terminal.Terminal.{Terminal}
 use Rattle.rl_hir.specs.declared.terminal.TerminalKind.TheVariants as ends
 use Rattle.rl_hir.specs.Listing as listing
 use Rattle.rl_lowered.proofs.Catches.{catch_declared, declares_caught}
+use Rattle.rl_lowered.proofs.Common.{At, BlockId, End, Names, Node, Pieces, Place, Said, Span, State, SymbolId, Syntax, Then}
 use Rattle.rl_lowered.proofs.SoundItems.{caught_place, sound_promoted}
 use Rattle.rl_lowered.proofs.SoundListing.{all_writable, declared_writable, span_writable}
 use Rattle.rl_lowered.proofs.SoundMoves.{counters_before, empty_writable, none_known, one_known, place_later, place_next}
@@ -34,14 +31,12 @@ use Rattle.rl_lowered.specs.Named.{IsFound, found}
 use Rattle.rl_lowered.specs.Sound.{AreSmallTrees, CountersGrow, HasSmallCounters, HasSmallTargets, IsSmallTree, IsSoundPlace, StaysSound}
 use Rattle.rl_machine.specs.Machine.{default_case}
 use Rattle.rl_model.specs.WellFormed.{AreKnown, case_places, optional_place, terminal_places}
-use Rattle.rl_names.specs.Names.{Names}
 use Rattle.rl_promises.specs.Locals.{IsSmallSpan}
 use Rattle.rl_promises.specs.Rows.{refusal}
 use Rattle.rl_runs.proofs.Moves.{extends_value}
 use Rattle.rl_runs.specs.Moves.{block_id, ends_by, last_hole, next_hole, threw_from, without_handler, without_scope}
-use Rattle.rl_syntax.specs.declared.numbered.At.{At}
 use Rattle.rl_syntax.specs.declared.word.Word.TheVariants as word
-use Rattle.rl_syntax.specs.Syntax.{Absent, End, Listed, Node, Pieces, Said, Syntax, Then, span_of}
+use Rattle.rl_syntax.specs.Syntax.{Absent, Listed, span_of}
 use Rattle.rl_text.specs.Notation.{IsWritable}
 use Rattle.rl_text.specs.Number.{largest}
 

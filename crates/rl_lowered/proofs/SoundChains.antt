@@ -1,23 +1,21 @@
 -- Links of optional chains keep places known and parts writable, where their holes do.
 use Rattle.std.proofs.Common.{◌≡◌, ℕ, ◌+◌, ◌<◌, ◌++◌, Bool, true, false, List, [], ◌∷◌, length, All, Option, Some, None, arith}
 use Rattle.std.proofs.lemmas.List.Elements.{All-append, All-cons, All-head, All-nil, All-tail, All-weaker}
-use Rattle.rl_base.specs.declared.ids.BlockId.{BlockId}
 use Rattle.rl_base.specs.declared.row.Row.TheVariants as row
-use Rattle.rl_base.specs.declared.span.Span.{Span}
-use Rattle.rl_builder.specs.Builder.{State, entered, new_block, reserved}
+use Rattle.rl_builder.specs.Builder.{entered, new_block, reserved}
 use Rattle.rl_builder.specs.Temporaries.{temporary, with_value}
 use Rattle.rl_frames.specs.Parts.{chain_begun, chain_ended, chain_reserved, chain_undefined, link_begun, link_end, link_finished}
 use Rattle.rl_frames.specs.Parts.{link_object}
 use Rattle.rl_hir.specs.declared.function.BlockKind.{BlockKind}
 use Rattle.rl_hir.specs.declared.function.BlockKind.TheVariants as block
 use Rattle.rl_hir.specs.declared.instruction.InstructionValue.TheVariants as values
-use Rattle.rl_hir.specs.declared.instruction.Place.{Place}
 use Rattle.rl_hir.specs.declared.instruction.PlaceOrSpread.{PlaceOrSpread}
 use Rattle.rl_hir.specs.declared.instruction.PrimitiveValue.TheVariants as primitives
 use Rattle.rl_hir.specs.declared.terminal.GotoVariant.TheVariants as gotos
 use Rattle.rl_hir.specs.Listing as listing
-use Rattle.rl_hir.specs.Pieces.{Gives, Piece, argument_pieces, gathered}
+use Rattle.rl_hir.specs.Pieces.{Gives, argument_pieces, gathered}
 use Rattle.rl_lowered.proofs.ChainFrames.{linked_state}
+use Rattle.rl_lowered.proofs.Common.{At, BlockId, Node, Piece, Pieces, Place, Span, State, Syntax, Then}
 use Rattle.rl_lowered.proofs.SoundForms.{called_places, called_writable, member_small, method_places, method_writable}
 use Rattle.rl_lowered.proofs.SoundListing.{branch_writable, optional_writable, span_writable, undefined_writable}
 use Rattle.rl_lowered.proofs.SoundMoves.{counters_then, empty_writable, identifiers_longer, none_known, one_known, place_grown, place_made}
@@ -35,9 +33,8 @@ use Rattle.rl_optional_frames.specs.Parts.{link_opened}
 use Rattle.rl_promises.specs.Locals.{IsSmallSpan}
 use Rattle.rl_promises.specs.Rows.{refusal}
 use Rattle.rl_runs.specs.Moves.{branch, last_hole, stored_in}
-use Rattle.rl_syntax.specs.declared.numbered.At.{At}
 use Rattle.rl_syntax.specs.declared.word.Word.{Word}
-use Rattle.rl_syntax.specs.Syntax.{Syntax, Node, Flag, Pieces, Then}
+use Rattle.rl_syntax.specs.Syntax.{Flag}
 use Rattle.rl_text.specs.Notation.{IsWritable}
 
 -- The block in which a chain ends early was numbered before a link inside it.

@@ -1,12 +1,11 @@
 -- A default keeps places known and parts writable, where its hole does.
 use Rattle.std.proofs.Common.{ℕ, ◌+◌, ◌<◌, ◌≤◌, length, Some, arith}
 use Rattle.rl_base.specs.declared.operator.BinaryOperator.TheVariants as binaries
-use Rattle.rl_base.specs.declared.span.Span.{Span}
-use Rattle.rl_builder.specs.Builder.{State, new_block, reserved, with_temporary}
+use Rattle.rl_builder.specs.Builder.{new_block, reserved, with_temporary}
 use Rattle.rl_builder.specs.Temporaries.{temporary}
 use Rattle.rl_hir.specs.declared.function.BlockKind.TheVariants as block
-use Rattle.rl_hir.specs.declared.instruction.Place.{Place}
 use Rattle.rl_hir.specs.declared.terminal.GotoVariant.TheVariants as gotos
+use Rattle.rl_lowered.proofs.Common.{Place, Span, State}
 use Rattle.rl_lowered.proofs.SoundAssignments.{combined_sound, undefined_sound}
 use Rattle.rl_lowered.proofs.SoundFrames.{sound_branched, sound_two}
 use Rattle.rl_lowered.proofs.SoundListing.{span_writable, ternary_writable}

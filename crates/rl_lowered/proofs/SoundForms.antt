@@ -7,25 +7,23 @@ use Rattle.std.proofs.lemmas.Str.{IsUtf8-append, IsUtf8-nil}
 use Rattle.rl_base.specs.Operators.{operator_text, unary_text}
 use Rattle.rl_base.specs.declared.row.Row.{Row}
 use Rattle.rl_hir.specs.Listing as listing
-use Rattle.rl_hir.specs.Pieces.{Key, Piece, Says, Names, Gives, Spreads, Takes, Use, argument_pieces, element_pieces}
+use Rattle.rl_hir.specs.Pieces.{Key, Says, Names, Gives, Spreads, Takes, Use, argument_pieces, element_pieces}
 use Rattle.rl_hir.specs.Pieces.{gathered, operand_tree, operands, property_pieces, quasi_pieces, row_parts, used, value_pieces}
 use Rattle.rl_hir.specs.Values.{Asks, form_tree}
 use Rattle.rl_hir.specs.declared.instruction.ArrayElement.{ArrayElement}
 use Rattle.rl_hir.specs.declared.instruction.ArrayElement.TheVariants as elements
-use Rattle.rl_hir.specs.declared.instruction.InstructionValue.{InstructionValue}
 use Rattle.rl_hir.specs.declared.instruction.InstructionValue.TheVariants as values
 use Rattle.rl_hir.specs.declared.instruction.ObjectProperty.{ObjectProperty}
-use Rattle.rl_hir.specs.declared.instruction.Place.{Place}
 use Rattle.rl_hir.specs.declared.instruction.PlaceOrSpread.{PlaceOrSpread}
 use Rattle.rl_hir.specs.declared.instruction.PlaceOrSpread.TheVariants as arguments
 use Rattle.rl_hir.specs.declared.instruction.PrimitiveValue.{PrimitiveValue}
 use Rattle.rl_hir.specs.declared.instruction.PropertyLiteral.TheVariants as keys
 use Rattle.rl_hir.specs.declared.instruction.TemplateQuasi.{TemplateQuasi}
 use Rattle.rl_hir.specs.declared.pieces.Row.TheVariants as rows
+use Rattle.rl_lowered.proofs.Common.{At, InstructionValue, Node, Piece, Pieces, Place, Syntax}
 use Rattle.rl_model.specs.WellFormed.{operand_places, value_places}
-use Rattle.rl_syntax.specs.declared.numbered.At.{At}
 use Rattle.rl_syntax.specs.declared.word.Word.{Word as NodeWord}
-use Rattle.rl_syntax.specs.Syntax.{Syntax, Node, Pieces, plain, plain_parts}
+use Rattle.rl_syntax.specs.Syntax.{plain, plain_parts}
 use Rattle.rl_text.specs.Notation.{IsWord, IsWritable, AreWritable}
 use Rattle.rl_text.specs.Numeral.{is_numeral, number_of}
 use Rattle.rl_lowered.specs.Forms.{DefaultName, DefaultTarget, IsDefaulted}

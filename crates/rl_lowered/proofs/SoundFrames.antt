@@ -4,8 +4,7 @@ use Rattle.std.specs.Str.{IsUtf8}
 use Rattle.std.proofs.lemmas.List.Elements.{All-cons}
 use Rattle.rl_base.specs.Operators.{logical_text}
 use Rattle.rl_base.specs.declared.operator.LogicalOperator.{LogicalOperator}
-use Rattle.rl_base.specs.declared.span.Span.{Span}
-use Rattle.rl_builder.specs.Builder.{State, completed_by, new_block, pushed, reserved, with_temporary}
+use Rattle.rl_builder.specs.Builder.{completed_by, new_block, pushed, reserved, with_temporary}
 use Rattle.rl_frames.specs.Frames.{if_alternate, if_after_consequent, if_at, if_consequent, if_ended, if_shut}
 use Rattle.rl_frames.specs.Frames.{logical_after, logical_at, logical_ended, logical_righted}
 use Rattle.rl_frames.specs.Frames.{sequence_at, sequence_ended}
@@ -14,9 +13,9 @@ use Rattle.rl_frames.specs.Parts.{if_begun, if_end, loads, logical_begun, logica
 use Rattle.rl_frames.specs.Parts.{sequence_begun, sequence_place, ternary_begun, ternary_place}
 use Rattle.rl_hir.specs.declared.function.BlockKind.{BlockKind}
 use Rattle.rl_hir.specs.declared.function.BlockKind.TheVariants as block
-use Rattle.rl_hir.specs.declared.instruction.Place.{Place}
 use Rattle.rl_hir.specs.declared.terminal.GotoVariant.TheVariants as gotos
 use Rattle.rl_hir.specs.declared.terminal.TerminalKind.TheVariants as kinds
+use Rattle.rl_lowered.proofs.Common.{Place, Span, State}
 use Rattle.rl_lowered.specs.Sound.{CountersGrow, IsSoundPlace, StaysSound}
 use Rattle.rl_lowered.proofs.SoundListing.{branch_writable, if_writable, instruction_writable, local_writable, logical_writable}
 use Rattle.rl_lowered.proofs.SoundListing.{sequence_writable, span_writable, ternary_writable}

@@ -1,12 +1,11 @@
 -- Lowering the head of a loop over keys or values keeps places known and parts writable.
 use Rattle.std.proofs.Common.{true, length}
 use Rattle.rl_base.specs.Diagnostics.{diagnostic_at}
-use Rattle.rl_base.specs.declared.diagnostic.Diagnostic.{Diagnostic}
 use Rattle.rl_base.specs.declared.row.Row.TheVariants as row
-use Rattle.rl_builder.specs.Builder.{State, recorded}
+use Rattle.rl_builder.specs.Builder.{recorded}
 use Rattle.rl_hir.specs.declared.instruction.InstructionKind.TheVariants as variables
 use Rattle.rl_hir.specs.declared.instruction.InstructionValue.TheVariants as values
-use Rattle.rl_hir.specs.declared.instruction.Place.{Place}
+use Rattle.rl_lowered.proofs.Common.{Diagnostic, Names, Place, State, Syntax}
 use Rattle.rl_lowered.proofs.Sound.{all_sound, target_sound}
 use Rattle.rl_lowered.proofs.SoundForms.{global_store_writable, member_small}
 use Rattle.rl_lowered.proofs.SoundItems.{met_below, sound_met, target_by}
@@ -20,10 +19,8 @@ use Rattle.rl_lowered.specs.Lowered.{Declared, DeclaredPattern, Lost, LoweredHea
 use Rattle.rl_lowered.specs.Lowered.{StoredMember, StoredPattern}
 use Rattle.rl_lowered.specs.Named.{found}
 use Rattle.rl_lowered.specs.Sound.{AreSmallTrees, IsSmallTree, IsSoundPlace, StaysSound}
-use Rattle.rl_names.specs.Names.{Names}
 use Rattle.rl_promises.specs.Locals.{KnowsNames}
 use Rattle.rl_promises.specs.Rows.{refusal, row_of_head}
-use Rattle.rl_syntax.specs.Syntax.{Syntax}
 
 -- Names are UTF-8, and spans of declarations are small.
 pub head_sound : {names : Names} {value : Place} {e : Syntax} {s t : State} {p : Place} → KnowsNames names

@@ -7,20 +7,17 @@ use Rattle.std.proofs.lemmas.Str.{IsUtf8-append, IsUtf8-from_ascii}
 use Rattle.std.specs.Fmt.{decimal}
 use Rattle.std.specs.Str.{IsUtf8}
 use Rattle.rl_base.specs.Diagnostics.{diagnostic_at}
-use Rattle.rl_base.specs.declared.diagnostic.Diagnostic.{Diagnostic}
-use Rattle.rl_base.specs.declared.ids.SymbolId.{SymbolId}
 use Rattle.rl_base.specs.declared.row.Row.TheVariants as row
-use Rattle.rl_base.specs.declared.span.Span.{Span}
-use Rattle.rl_builder.specs.Builder.{State, recorded}
+use Rattle.rl_builder.specs.Builder.{recorded}
 use Rattle.rl_builder.specs.Temporaries.{temporary, with_value}
 use Rattle.rl_hir.specs.Identifiers.{with_span}
 use Rattle.rl_hir.specs.Listing as listing
-use Rattle.rl_hir.specs.Pieces.{Gives, Piece, Says, Spreads, pattern_pieces}
+use Rattle.rl_hir.specs.Pieces.{Gives, Says, Spreads, pattern_pieces}
 use Rattle.rl_hir.specs.declared.function.Identifier.{Identifier}
 use Rattle.rl_hir.specs.declared.instruction.InstructionKind.{InstructionKind}
 use Rattle.rl_hir.specs.declared.instruction.Pattern.{Pattern}
-use Rattle.rl_hir.specs.declared.instruction.Place.{Place}
 use Rattle.rl_lowered.proofs.Catches.{length_promoted}
+use Rattle.rl_lowered.proofs.Common.{At, Diagnostic, End, Names, Node, Piece, Pieces, Place, Said, Span, State, SymbolId, Syntax, Then}
 use Rattle.rl_lowered.proofs.Redeclared.{all_changed, length_redeclared}
 use Rattle.rl_lowered.proofs.SoundForms.{AreWritten, WritesPlace, dot_utf8, hole_utf8, operand_places_in, operands_written, texts_written}
 use Rattle.rl_lowered.proofs.SoundListing.{span_writable, variable_kind_utf8}
@@ -36,11 +33,9 @@ use Rattle.rl_lowered.specs.Items as items
 use Rattle.rl_lowered.specs.Named.{IsFound, found}
 use Rattle.rl_lowered.specs.Sound.{AreSmallTrees, CountersGrow, HasSmallCounters, HasSmallSpans, IsSmallTree, IsSoundPlace, StaysSound}
 use Rattle.rl_model.specs.WellFormed.{value_places}
-use Rattle.rl_names.specs.Names.{Names}
 use Rattle.rl_promises.specs.Locals.{IsSmallSpan}
 use Rattle.rl_promises.specs.Patterns.{fraction_in, key_name, lost_item, lost_rest, target_under}
-use Rattle.rl_syntax.specs.Syntax.{Absent, End, Node, Pieces, Said, Syntax, Then, plain, span_of}
-use Rattle.rl_syntax.specs.declared.numbered.At.{At}
+use Rattle.rl_syntax.specs.Syntax.{Absent, plain, span_of}
 use Rattle.rl_syntax.specs.declared.word.Word.TheVariants as word
 use Rattle.rl_text.specs.Notation.{IsWritable}
 use Rattle.rl_text.specs.Number.{largest}

@@ -4,16 +4,15 @@ use Rattle.std.proofs.Common.{lit<, refl, subst, arith}
 use Rattle.std.specs.Prelude.{IfSome}
 use Rattle.std.specs.Str.{IsUtf8}
 use Rattle.std.proofs.lemmas.List.Elements.{All-append, All-cons, All-head, All-nil, All-tail}
-use Rattle.rl_base.specs.declared.span.Span.{Span}
 use Rattle.rl_base.specs.declared.operator.BinaryOperator.{BinaryOperator}
 use Rattle.rl_base.specs.declared.operator.LogicalOperator.{LogicalOperator}
 use Rattle.rl_base.specs.declared.operator.UpdateOperator.{UpdateOperator}
 use Rattle.rl_base.specs.declared.operator.UpdateOperator.TheVariants as updates
 use Rattle.rl_base.specs.declared.type_kind.TypeKind.{TypeKind}
 use Rattle.rl_base.specs.declared.type_kind.TypeKind.TheVariants as cases
-use Rattle.rl_base.specs.declared.ids.BlockId.{BlockId}
 use Rattle.rl_base.specs.declared.ids.InstructionId.{InstructionId}
 use Rattle.rl_base.specs.Operators.{logical_text, operator_text, update_text}
+use Rattle.rl_lowered.proofs.Common.{BlockId, Place, Span, State}
 use Rattle.rl_text.specs.Notation.{Tree, IsWritable, AreWritable}
 use Rattle.rl_text.specs.Number.{largest}
 use Rattle.rl_text.specs.Raw.{parts_of}
@@ -23,7 +22,7 @@ use Rattle.rl_hir.specs.declared.function.IdentifierName.TheVariants.{Named}
 use Rattle.rl_hir.specs.Pieces.{Says, argument_pieces, gathered, row_parts}
 use Rattle.rl_hir.specs.Terminals.{Chooses, Field, Follows, Leads, MayLead, MayName, Names, fields_of, goto_variant, listed_id}
 use Rattle.rl_hir.specs.Terminals.{names, return_variant, unreachable, with_order}
-use Rattle.rl_builder.specs.Builder.{State, ended_by, maybe_throw}
+use Rattle.rl_builder.specs.Builder.{ended_by, maybe_throw}
 use Rattle.rl_builder.specs.declared.blocks.WipBlock.{WipBlock}
 use Rattle.rl_hir.specs.declared.function.BlockKind.{BlockKind}
 use Rattle.rl_hir.specs.declared.function.BlockKind.TheVariants as kinds
@@ -39,7 +38,6 @@ use Rattle.rl_hir.specs.Trees.{hir_type, instruction_kind}
 use Rattle.rl_hir.specs.declared.instruction.InstructionValue.TheVariants as values
 use Rattle.rl_hir.specs.declared.instruction.NonLocalBinding.{NonLocalBinding}
 use Rattle.rl_hir.specs.declared.instruction.PrimitiveValue.TheVariants as primitives
-use Rattle.rl_hir.specs.declared.instruction.Place.{Place}
 use Rattle.rl_hir.specs.declared.instruction.PlaceOrSpread.{PlaceOrSpread}
 use Rattle.rl_hir.specs.declared.instruction.PlaceOrSpread.TheVariants as arguments
 use Rattle.rl_hir.specs.declared.pieces.Row.TheVariants as rows

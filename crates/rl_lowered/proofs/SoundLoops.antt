@@ -2,9 +2,7 @@
 use Rattle.std.proofs.Common.{◌≡◌, ℕ, ◌+◌, ◌-◌, ◌<◌, ◌≤◌, true, false, [], List, All, Some, Ok, length, slice_get, subst, arith}
 use Rattle.std.proofs.lemmas.List.Elements.{All-get_or, All-push, All-take}
 use Rattle.std.proofs.lemmas.Option.{get_or_from_slice_get, slice_get_within}
-use Rattle.rl_base.specs.declared.ids.BlockId.{BlockId}
-use Rattle.rl_base.specs.declared.span.Span.{Span}
-use Rattle.rl_builder.specs.Builder.{State, completed_by, entered, new_block, reserved}
+use Rattle.rl_builder.specs.Builder.{completed_by, entered, new_block, reserved}
 use Rattle.rl_builder.specs.declared.jumps.JumpScope.{JumpScope}
 use Rattle.rl_builder.specs.declared.jumps.JumpScope.TheVariants as scope
 use Rattle.rl_builder.specs.Jumps.{break_block_of, continue_block_of, lookup_break, lookup_continue}
@@ -16,10 +14,10 @@ use Rattle.rl_frames.specs.Parts.{while_scope}
 use Rattle.rl_hir.specs.Listing as listing
 use Rattle.rl_hir.specs.declared.function.BlockKind.{BlockKind}
 use Rattle.rl_hir.specs.declared.function.BlockKind.TheVariants as block
-use Rattle.rl_hir.specs.declared.instruction.Place.{Place}
 use Rattle.rl_hir.specs.declared.terminal.GotoVariant.{GotoVariant}
 use Rattle.rl_hir.specs.declared.terminal.GotoVariant.TheVariants as gotos
 use Rattle.rl_hir.specs.declared.terminal.Terminal.{Terminal}
+use Rattle.rl_lowered.proofs.Common.{BlockId, Place, Span, State}
 use Rattle.rl_lowered.specs.Sound.{CountersGrow, HasSmallCounters, HasSmallTargets, IsSoundPlace, StaysSound}
 use Rattle.rl_lowered.proofs.SoundListing.{branch_writable, do_while_writable, for_writable, goto_end_writable, label_writable}
 use Rattle.rl_lowered.proofs.SoundListing.{while_writable}

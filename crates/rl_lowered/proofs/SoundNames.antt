@@ -7,10 +7,7 @@ use Rattle.std.proofs.lemmas.Str.{IsUtf8-append, IsUtf8-from_ascii}
 use Rattle.std.specs.Fmt.{decimal, digit_glyph, digits, digits_onto}
 use Rattle.std.specs.Option.{option_map, option_or}
 use Rattle.std.specs.Str.{IsAscii, IsUtf8}
-use Rattle.rl_base.specs.declared.ids.SymbolId.{SymbolId}
-use Rattle.rl_base.specs.declared.span.Span.{Span}
 use Rattle.rl_bindings.specs.declared.event.Bound.{Bound}
-use Rattle.rl_builder.specs.Builder.{State}
 use Rattle.rl_builder.specs.Names.{fresh_identifier, new_span, resolved_by}
 use Rattle.rl_context.specs.Index.{declares, span_among}
 use Rattle.rl_context.specs.declared.site.Site.{Site}
@@ -18,12 +15,12 @@ use Rattle.rl_hir.specs.Listing as listing
 use Rattle.rl_hir.specs.Pairs.{identifier_of, pair}
 use Rattle.rl_hir.specs.declared.function.Identifier.{Identifier}
 use Rattle.rl_hir.specs.declared.function.Pair.{Pair}
+use Rattle.rl_lowered.proofs.Common.{Names, Span, State, SymbolId}
 use Rattle.rl_lowered.proofs.SoundListing.{named_writable, span_writable}
 use Rattle.rl_lowered.proofs.SoundMoves.{counters_before, sound_diagnostics, table_more, terminals_more}
 use Rattle.rl_lowered.specs.Named.{IsFound, IsNamed, found}
 use Rattle.rl_lowered.specs.Sound.{CountersGrow, HasSmallCounters, StaysSound}
 use Rattle.rl_used_names.specs.Candidates.{candidate}
-use Rattle.rl_names.specs.Names.{Names}
 use Rattle.rl_promises.specs.Locals.{IsSmallSpan, IsVariable, KnowsNames}
 use Rattle.rl_resolver.specs.Lookups.{declaration_ident}
 use Rattle.rl_semantic.specs.Items.{of_item}

@@ -1,14 +1,13 @@
 -- Lowering a binding pattern, or parameters, keeps places known and parts writable.
 use Rattle.std.proofs.Common.{ℕ, ◌<◌, ◌≤◌, Bool, List, [], ◌∷◌, All, length, map, Some, lit<, refl, arith}
 use Rattle.std.proofs.lemmas.List.Elements.{All-cons, All-head, All-nil, All-tail, All-weaker}
-use Rattle.rl_base.specs.declared.span.Span.{Span}
-use Rattle.rl_builder.specs.Builder.{State, with_temporary}
+use Rattle.rl_builder.specs.Builder.{with_temporary}
 use Rattle.rl_builder.specs.Temporaries.{temporary}
 use Rattle.rl_hir.specs.declared.function.Param.{Param}
 use Rattle.rl_hir.specs.declared.function.Param.TheVariants as params
 use Rattle.rl_hir.specs.declared.instruction.InstructionKind.{InstructionKind}
-use Rattle.rl_hir.specs.declared.instruction.Place.{Place}
 use Rattle.rl_hir.specs.Listing as listing
+use Rattle.rl_lowered.proofs.Common.{Names, Pieces, Place, Span, State, Syntax}
 use Rattle.rl_lowered.proofs.Sound.{moved_sound}
 use Rattle.rl_lowered.proofs.SoundDefaults.{default_sound}
 use Rattle.rl_lowered.proofs.SoundItems.{IsSoundLater, apart_sound, caught_place, items_sound, laters_next, met_below, sound_met}
@@ -24,11 +23,9 @@ use Rattle.rl_lowered.specs.Lowered as lowered
 use Rattle.rl_lowered.specs.Named.{found}
 use Rattle.rl_lowered.specs.Sound.{AreSmallTrees, HasSmallCounters, IsSmallTree, IsSoundPlace, StaysSound}
 use Rattle.rl_model.specs.WellFormed.{AreKnown, param_place}
-use Rattle.rl_names.specs.Names.{Names}
 use Rattle.rl_optional_frames.specs.Frames.{default_at, default_ended}
 use Rattle.rl_optional_frames.specs.Parts.{default_begun}
 use Rattle.rl_promises.specs.Locals.{IsSmallSpan, KnowsNames}
-use Rattle.rl_syntax.specs.Syntax.{Pieces, Syntax}
 use Rattle.rl_text.specs.Notation.{IsWritable}
 
 -- A default, which `value` passes.

@@ -1,8 +1,7 @@
 -- Loops over keys or values keep places known and parts writable, where their holes do.
 use Rattle.std.proofs.Common.{ℕ, ◌+◌, ◌-◌, ◌<◌, [], ◌∷◌, Some, length, arith}
 use Rattle.std.proofs.lemmas.List.Elements.{All-cons, All-push, All-take}
-use Rattle.rl_base.specs.declared.span.Span.{Span}
-use Rattle.rl_builder.specs.Builder.{State, entered, new_block, reserved}
+use Rattle.rl_builder.specs.Builder.{entered, new_block, reserved}
 use Rattle.rl_builder.specs.declared.jumps.JumpScope.TheVariants as scope
 use Rattle.rl_builder.specs.Temporaries.{with_value}
 use Rattle.rl_frames.specs.Parts.{forin_begun, forin_end, forof_begun, forof_end}
@@ -12,8 +11,8 @@ use Rattle.rl_frames.specs.Rounds.{rounds_shut}
 use Rattle.rl_hir.specs.Listing as listing
 use Rattle.rl_hir.specs.declared.function.BlockKind.TheVariants as block
 use Rattle.rl_hir.specs.declared.instruction.InstructionValue.TheVariants as values
-use Rattle.rl_hir.specs.declared.instruction.Place.{Place}
 use Rattle.rl_hir.specs.declared.terminal.GotoVariant.TheVariants as gotos
+use Rattle.rl_lowered.proofs.Common.{Place, Span, State}
 use Rattle.rl_lowered.proofs.SoundForms.{item_step_writable, iterator_writable, key_step_writable}
 use Rattle.rl_lowered.proofs.SoundListing.{forin_writable, forof_writable, goto_end_writable, span_writable}
 use Rattle.rl_lowered.proofs.SoundLoops.{sound_tested, sound_three}

@@ -1,14 +1,12 @@
 -- Lowering a statement or a body keeps places known and parts writable.
 use Rattle.std.proofs.Common.{ℕ, true, false, List, [], ◌∷◌, length, Some, None, refl, arith, All, Option}
 use Rattle.std.proofs.lemmas.List.Elements.{All-cons, All-head, All-tail, All-nil}
-use Rattle.rl_base.specs.declared.diagnostic.Diagnostic.{Diagnostic}
 use Rattle.rl_base.specs.declared.row.Row.TheVariants as row
-use Rattle.rl_base.specs.declared.span.Span.{Span}
 use Rattle.rl_base.specs.declared.variable_kind.VariableKind.{VariableKind}
 use Rattle.rl_base.specs.declared.variable_kind.VariableKind.TheVariants as kinds
 use Rattle.rl_base.specs.Diagnostics.{diagnostic_at}
 use Rattle.rl_base.specs.VariableKinds.{variable_text}
-use Rattle.rl_builder.specs.Builder.{State, completed_by, new_block, recorded, reserved}
+use Rattle.rl_builder.specs.Builder.{completed_by, new_block, recorded, reserved}
 use Rattle.rl_builder.specs.Temporaries.{temporary, with_value}
 use Rattle.rl_frames.specs.Frames.{do_while_bodied, for_after, for_after_init, for_after_update, for_at, for_bodied, for_ended}
 use Rattle.rl_frames.specs.Frames.{for_inited, for_updated, if_after_consequent, if_alternate, if_at, if_consequent, if_ended, if_shut}
@@ -21,11 +19,11 @@ use Rattle.rl_frames.specs.SwitchParts.{switch_begun}
 use Rattle.rl_hir.specs.declared.function.BlockKind.TheVariants as blocks
 use Rattle.rl_hir.specs.declared.instruction.InstructionKind.{InstructionKind}
 use Rattle.rl_hir.specs.declared.instruction.InstructionValue.TheVariants as values
-use Rattle.rl_hir.specs.declared.instruction.Place.{Place}
 use Rattle.rl_hir.specs.declared.instruction.PrimitiveValue.TheVariants as primitives
 use Rattle.rl_hir.specs.declared.terminal.Case.{Case}
 use Rattle.rl_hir.specs.declared.terminal.ReturnVariant.TheVariants as returns
 use Rattle.rl_hir.specs.Listing as listing
+use Rattle.rl_lowered.proofs.Common.{At, Diagnostic, End, Names, Node, Pieces, Place, Said, Span, State, Syntax, Then}
 use Rattle.rl_lowered.proofs.Sound.{expression_sound}
 use Rattle.rl_lowered.proofs.SoundAssignments.{undefined_sound}
 use Rattle.rl_lowered.proofs.SoundCatches.{IsSoundCase, IsSoundTest, bound_tree_sound, case_tree_sound, switch_tree_sound}
@@ -57,15 +55,13 @@ use Rattle.rl_lowered.specs.Lowered.{Variables, While, With, declaring, label_pa
 use Rattle.rl_lowered.specs.Named.{found}
 use Rattle.rl_lowered.specs.Sound.{AreSmallTrees, HasSmallSpans, IsSmallTree, IsSoundPlace, StaysSound}
 use Rattle.rl_model.specs.Actions.{Label}
-use Rattle.rl_names.specs.Names.{Names}
 use Rattle.rl_promises.specs.Locals.{IsSmallSpan, KnowsNames}
 use Rattle.rl_promises.specs.Moved.{type_name}
 use Rattle.rl_promises.specs.Rows.{refusal}
 use Rattle.rl_runs.proofs.Moves.{value_made}
 use Rattle.rl_runs.specs.Moves.{return_of, returned_from}
-use Rattle.rl_syntax.specs.declared.numbered.At.{At}
 use Rattle.rl_syntax.specs.declared.word.Word.TheVariants as word
-use Rattle.rl_syntax.specs.Syntax.{Absent, End, Flag, Listed, Node, Pieces, Said, Syntax, Then, span_of}
+use Rattle.rl_syntax.specs.Syntax.{Absent, Flag, Listed, span_of}
 use Rattle.rl_text.specs.Notation.{IsWritable}
 
 return_sound : (at : At) (e : Syntax) (s t : State) (p : Place) → IsSound (IsSmallTree e) s t p

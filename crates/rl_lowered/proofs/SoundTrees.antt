@@ -1,9 +1,10 @@
 -- The parts of a small tree are small.
 use Rattle.std.proofs.Common.{◌≡◌, ℕ, ◌≤◌, true, nat_le, List, sym, subst, arith}
 use Rattle.std.proofs.lemmas.Bool.{leb-true, and_parts}
+use Rattle.rl_lowered.proofs.Common.{End, Node, Pieces, Said, Syntax, Then}
 use Rattle.rl_text.specs.Number.{largest}
 use Rattle.rl_text.specs.Numeral.{is_numeral, number_of}
-use Rattle.rl_syntax.specs.Syntax.{Syntax, Node, Listed, Said, Count, Flag, Absent, Pieces, End, Then, span_of}
+use Rattle.rl_syntax.specs.Syntax.{Listed, Count, Flag, Absent, span_of}
 use Rattle.rl_promises.specs.Locals.{IsSmallSpan}
 use Rattle.rl_lowered.specs.Sound.{AreSmallTrees, HasSmallSpans, HaveSmallSpans, IsSmallTree}
 use Rattle.rl_lowered.specs.Spanned.{EachSpan, EachSpanAmong}

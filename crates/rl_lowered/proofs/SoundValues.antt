@@ -1,16 +1,11 @@
 -- Values over places that were made keep places known and parts writable: loads of properties, and stores to variables.
 use Rattle.std.proofs.Common.{◌≡◌, ℕ, ◌++◌, ◌<◌, List, [], ◌∷◌, length, All, Some, refl, sym, subst}
 use Rattle.std.proofs.lemmas.List.Elements.{All-append, All-cons, All-head, All-nil, All-tail, All-weaker}
-use Rattle.rl_base.specs.declared.ids.SymbolId.{SymbolId}
-use Rattle.rl_base.specs.declared.span.Span.{Span}
-use Rattle.rl_builder.specs.Builder.{State}
 use Rattle.rl_builder.specs.Temporaries.{temporary, with_value}
 use Rattle.rl_hir.specs.Listing as listing
-use Rattle.rl_hir.specs.Pieces.{Piece}
 use Rattle.rl_hir.specs.declared.instruction.InstructionKind.{InstructionKind}
-use Rattle.rl_hir.specs.declared.instruction.InstructionValue.{InstructionValue}
 use Rattle.rl_hir.specs.declared.instruction.InstructionValue.TheVariants as values
-use Rattle.rl_hir.specs.declared.instruction.Place.{Place}
+use Rattle.rl_lowered.proofs.Common.{At, InstructionValue, Names, Node, Piece, Pieces, Place, Span, State, SymbolId}
 use Rattle.rl_lowered.proofs.SoundForms.{load_writable, member_places, store_writable, stored_places}
 use Rattle.rl_lowered.proofs.SoundListing.{initialized_writable, span_writable}
 use Rattle.rl_lowered.proofs.SoundMoves.{place_made, place_next, place_weaker, sound_next, sound_refl, sound_value, value_place}
@@ -19,11 +14,8 @@ use Rattle.rl_lowered.specs.Forms.{IsMember, MemberKey, load_of, places_in, stor
 use Rattle.rl_lowered.specs.Named.{IsFound, found}
 use Rattle.rl_lowered.specs.Sound.{HasSmallCounters, IsSmallTree, IsSoundPlace, StaysSound}
 use Rattle.rl_model.specs.WellFormed.{AreKnown, value_places}
-use Rattle.rl_names.specs.Names.{Names}
 use Rattle.rl_promises.specs.Locals.{IsSmallSpan}
-use Rattle.rl_syntax.specs.declared.numbered.At.{At}
 use Rattle.rl_syntax.specs.declared.word.Word.{Word}
-use Rattle.rl_syntax.specs.Syntax.{Node, Pieces}
 use Rattle.rl_text.specs.Notation.{IsWritable}
 
 -- A value behind what came before

@@ -2,17 +2,14 @@
 use Rattle.std.proofs.Common.{◌≡◌, ℕ, ◌&&◌, Bool, true, List, [], ◌∷◌, All, map, Some, None, sym, subst, Option}
 use Rattle.std.proofs.lemmas.List.Elements.{All-append, All-cons, All-head, All-nil, All-tail}
 use Rattle.std.specs.Prelude.{IfSome}
-use Rattle.rl_base.specs.declared.ids.BlockId.{BlockId}
-use Rattle.rl_base.specs.declared.ids.SymbolId.{SymbolId}
 use Rattle.rl_base.specs.declared.operator.BinaryOperator.{BinaryOperator}
 use Rattle.rl_base.specs.declared.row.Row.TheVariants as row
-use Rattle.rl_base.specs.declared.span.Span.{Span}
 use Rattle.rl_base.specs.declared.type_kind.TypeKind.{TypeKind}
 use Rattle.rl_base.specs.declared.type_kind.TypeKind.TheVariants as types
 use Rattle.rl_base.specs.declared.variable_kind.VariableKind.{VariableKind}
 use Rattle.rl_base.specs.declared.variable_kind.VariableKind.TheVariants as kinds
 use Rattle.rl_base.specs.Diagnostics.{diagnostic_at}
-use Rattle.rl_builder.specs.Builder.{State, new_block, recorded, reserved}
+use Rattle.rl_builder.specs.Builder.{new_block, recorded, reserved}
 use Rattle.rl_builder.specs.Temporaries.{temporary, with_value}
 use Rattle.rl_frames.specs.Parts.{try_end}
 use Rattle.rl_frames.specs.SwitchParts.{fall_of}
@@ -22,15 +19,15 @@ use Rattle.rl_hir.specs.declared.instruction.InstructionKind.{InstructionKind}
 use Rattle.rl_hir.specs.declared.instruction.InstructionKind.TheVariants as variables
 use Rattle.rl_hir.specs.declared.instruction.InstructionValue.TheVariants as values
 use Rattle.rl_hir.specs.declared.instruction.NonLocalBinding.{NonLocalBinding}
-use Rattle.rl_hir.specs.declared.instruction.Place.{Place}
 use Rattle.rl_hir.specs.declared.instruction.PlaceOrSpread.{PlaceOrSpread}
 use Rattle.rl_hir.specs.declared.instruction.PrimitiveValue.TheVariants as primitives
 use Rattle.rl_hir.specs.declared.terminal.Case.{Case}
 use Rattle.rl_hir.specs.declared.terminal.GotoVariant.TheVariants as gotos
 use Rattle.rl_hir.specs.declared.terminal.ReturnVariant.TheVariants as returns
 use Rattle.rl_hir.specs.Instructions.{binding_texts}
-use Rattle.rl_hir.specs.Pieces.{Piece, argument_pieces, gathered}
+use Rattle.rl_hir.specs.Pieces.{argument_pieces, gathered}
 use Rattle.rl_lowered.proofs.Catches.{catch_declared}
+use Rattle.rl_lowered.proofs.Common.{BlockId, Names, Piece, Pieces, Place, Span, State, SymbolId, Syntax}
 use Rattle.rl_lowered.proofs.Plain.{lowered_plain, operand_span}
 use Rattle.rl_lowered.proofs.SoundForms.{form_places, method_places, object_places, stored_places}
 use Rattle.rl_lowered.proofs.SpannedForms.{cast_each, form_cast, form_each, load_spans, member_each, object_spanned, outer_spanned}
@@ -59,14 +56,13 @@ use Rattle.rl_lowered.specs.Named.{found}
 use Rattle.rl_lowered.specs.Spanned.{EachSpan, EachSpanAmong, KeepsSpans}
 use Rattle.rl_model.specs.Actions.{Label}
 use Rattle.rl_model.specs.WellFormed.{case_places, param_place}
-use Rattle.rl_names.specs.Names.{Names}
 use Rattle.rl_optional_frames.specs.Frames.{link_at, link_objected}
 use Rattle.rl_promises.specs.Moved.{type_name}
 use Rattle.rl_promises.specs.Rows.{refusal, row_of_head}
 use Rattle.rl_promises.specs.Spans.{AreSpanned}
 use Rattle.rl_runs.specs.Moves.{block_id}
 use Rattle.rl_syntax.specs.declared.word.Word.{Word}
-use Rattle.rl_syntax.specs.Syntax.{Pieces, Syntax, span_of}
+use Rattle.rl_syntax.specs.Syntax.{span_of}
 
 module _ (P : Span → Type 0) where
   -- A part that was lowered is a node.

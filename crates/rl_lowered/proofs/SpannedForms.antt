@@ -4,15 +4,12 @@ use Rattle.std.specs.Prelude.{IfSome}
 use Rattle.std.proofs.lemmas.List.Elements.{All-append, All-head, All-tail}
 use Rattle.rl_base.specs.declared.operator.UpdateOperator.{UpdateOperator}
 use Rattle.rl_base.specs.declared.row.Row.{Row}
-use Rattle.rl_base.specs.declared.span.Span.{Span}
-use Rattle.rl_builder.specs.Builder.{State}
 use Rattle.rl_builder.specs.Temporaries.{temporary, with_value}
-use Rattle.rl_hir.specs.Pieces.{Piece, Says, argument_pieces, gathered, operands}
-use Rattle.rl_hir.specs.declared.instruction.InstructionValue.{InstructionValue}
+use Rattle.rl_hir.specs.Pieces.{Says, argument_pieces, gathered, operands}
 use Rattle.rl_hir.specs.declared.instruction.InstructionValue.TheVariants as values
-use Rattle.rl_hir.specs.declared.instruction.Place.{Place}
 use Rattle.rl_hir.specs.declared.instruction.PlaceOrSpread.{PlaceOrSpread}
 use Rattle.rl_hir.specs.declared.instruction.PrimitiveValue.TheVariants as primitives
+use Rattle.rl_lowered.proofs.Common.{InstructionValue, Piece, Pieces, Place, Span, State, Syntax}
 use Rattle.rl_lowered.proofs.SoundForms.{member_places, method_places, operand_places_in, stored_places}
 use Rattle.rl_lowered.proofs.SpannedMoves.{more_spanned, none_spanned, one_spanned, value_spans}
 use Rattle.rl_lowered.specs.Forms.{DefaultName, DefaultTarget, IsDefaulted}
@@ -26,7 +23,6 @@ use Rattle.rl_lowered.specs.Lowered.{binary_of, member_loaded, member_one, membe
 use Rattle.rl_lowered.specs.Spanned.{EachSpan, EachSpanAmong, KeepsSpans}
 use Rattle.rl_model.specs.WellFormed.{operand_places, value_places}
 use Rattle.rl_promises.specs.Spans.{AreSpanned, type_span}
-use Rattle.rl_syntax.specs.Syntax.{Syntax, Pieces}
 use Rattle.rl_syntax.specs.declared.word.Word.{Word}
 
 -- The places of a link's value: its object, or its callee behind the receiver, and those of the parts behind.

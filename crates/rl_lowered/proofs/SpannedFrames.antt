@@ -3,13 +3,10 @@ use Rattle.std.proofs.Common.{ℕ, ◌+◌, true, false, List, [], ◌∷◌, So
 use Rattle.std.proofs.Common.{append-nil, ◌∙◌}
 use Rattle.std.specs.Prelude.{IfSome, ◌≡◌, ◌++◌}
 use Rattle.std.proofs.lemmas.List.Elements.{All-push}
-use Rattle.rl_base.specs.declared.ids.BlockId.{BlockId}
-use Rattle.rl_base.specs.declared.ids.SymbolId.{SymbolId}
 use Rattle.rl_base.specs.declared.operator.BinaryOperator.TheVariants as binaries
 use Rattle.rl_base.specs.declared.operator.LogicalOperator.{LogicalOperator}
 use Rattle.rl_base.specs.declared.row.Row.TheVariants as row
-use Rattle.rl_base.specs.declared.span.Span.{Span}
-use Rattle.rl_builder.specs.Builder.{State, completed_by, entered, innermost, new_block, pushed, reserved, with_temporary}
+use Rattle.rl_builder.specs.Builder.{completed_by, entered, innermost, new_block, pushed, reserved, with_temporary}
 use Rattle.rl_builder.specs.declared.blocks.WipBlock.{WipBlock}
 use Rattle.rl_builder.specs.Temporaries.{temporary, with_value}
 use Rattle.rl_frames.specs.Frames.{ForParts, IfParts, LogicalParts, SequenceParts, TernaryParts, do_while_bodied, for_after, for_after_init}
@@ -30,7 +27,6 @@ use Rattle.rl_hir.specs.declared.function.BlockKind.{BlockKind}
 use Rattle.rl_hir.specs.declared.function.BlockKind.TheVariants as block
 use Rattle.rl_hir.specs.declared.function.Identifier.{Identifier}
 use Rattle.rl_hir.specs.declared.instruction.InstructionValue.TheVariants as values
-use Rattle.rl_hir.specs.declared.instruction.Place.{Place}
 use Rattle.rl_hir.specs.declared.instruction.PrimitiveValue.TheVariants as primitives
 use Rattle.rl_hir.specs.declared.terminal.Case.{Case}
 use Rattle.rl_hir.specs.declared.terminal.GotoVariant.{GotoVariant}
@@ -38,6 +34,7 @@ use Rattle.rl_hir.specs.declared.terminal.GotoVariant.TheVariants as gotos
 use Rattle.rl_hir.specs.declared.terminal.Terminal.{Terminal}
 use Rattle.rl_hir.specs.declared.terminal.TerminalKind.TheVariants as kinds
 use Rattle.rl_lowered.proofs.Catches.{catch_declared, declares_caught, stores_caught}
+use Rattle.rl_lowered.proofs.Common.{BlockId, Names, Place, Span, State, SymbolId}
 use Rattle.rl_lowered.proofs.SpannedMoves.{completed_spans, entered_spans, found_spans, last_hole_spans, more_spanned, next_hole_spans}
 use Rattle.rl_lowered.proofs.SpannedMoves.{none_spanned, one_spanned, pushed_spans, recorded_spans, reserved_spans, scopes_spans}
 use Rattle.rl_lowered.proofs.SpannedMoves.{stored_spans, temporary_spans, value_spans}
@@ -48,7 +45,6 @@ use Rattle.rl_lowered.specs.Spanned.{HasSpans, KeepsSpans}
 use Rattle.rl_machine.specs.Machine.{default_case}
 use Rattle.rl_model.specs.Actions.{Label}
 use Rattle.rl_model.specs.WellFormed.{case_places}
-use Rattle.rl_names.specs.Names.{Names}
 use Rattle.rl_optional_frames.specs.Frames.{LinkParts, default_at, default_ended, default_tested, link_after, link_at, link_block}
 use Rattle.rl_optional_frames.specs.Frames.{link_ended, link_objected}
 use Rattle.rl_optional_frames.specs.Parts.{compared, comparison, default_begun, default_end, default_given, default_other, default_reserved}

@@ -4,16 +4,13 @@ use Rattle.std.proofs.lemmas.List.Elements.{All-cons, All-head, All-nil, All-tai
 use Rattle.std.proofs.lemmas.Option.{none-some}
 use Rattle.std.specs.Prelude.{IfSome}
 use Rattle.rl_base.specs.Diagnostics.{diagnostic_at}
-use Rattle.rl_base.specs.declared.diagnostic.Diagnostic.{Diagnostic}
-use Rattle.rl_base.specs.declared.ids.SymbolId.{SymbolId}
 use Rattle.rl_base.specs.declared.row.Row.TheVariants as row
-use Rattle.rl_base.specs.declared.span.Span.{Span}
-use Rattle.rl_builder.specs.Builder.{State, recorded}
+use Rattle.rl_builder.specs.Builder.{recorded}
 use Rattle.rl_builder.specs.Temporaries.{with_value}
-use Rattle.rl_hir.specs.Pieces.{Gives, Piece, Spreads, pattern_pieces}
+use Rattle.rl_hir.specs.Pieces.{Gives, Spreads, pattern_pieces}
 use Rattle.rl_hir.specs.declared.instruction.InstructionKind.{InstructionKind}
 use Rattle.rl_hir.specs.declared.instruction.Pattern.{Pattern}
-use Rattle.rl_hir.specs.declared.instruction.Place.{Place}
+use Rattle.rl_lowered.proofs.Common.{At, Diagnostic, End, Names, Node, Piece, Pieces, Place, Span, State, SymbolId, Syntax, Then}
 use Rattle.rl_lowered.proofs.SoundItems.{apart_places, item_places, lost_places}
 use Rattle.rl_lowered.proofs.SpannedFrames.{promoted_spans}
 use Rattle.rl_lowered.proofs.SpannedMoves.{found_spans, more_spanned, none_spanned, one_spanned, recorded_spans, redeclared_spans}
@@ -24,11 +21,9 @@ use Rattle.rl_lowered.specs.Items.{met, promoted, variable_at}
 use Rattle.rl_lowered.specs.Items as items
 use Rattle.rl_lowered.specs.Named.{found}
 use Rattle.rl_lowered.specs.Spanned.{EachSpan, EachSpanAmong, KeepsSpans}
-use Rattle.rl_names.specs.Names.{Names}
 use Rattle.rl_promises.specs.Patterns.{fraction_in, local_at, lost_item, lost_rest, target_under}
 use Rattle.rl_promises.specs.Spans.{AreSpanned}
-use Rattle.rl_syntax.specs.Syntax.{Absent, End, Node, Pieces, Syntax, Then, span_of}
-use Rattle.rl_syntax.specs.declared.numbered.At.{At}
+use Rattle.rl_syntax.specs.Syntax.{Absent, span_of}
 use Rattle.rl_syntax.specs.declared.word.Word.TheVariants as word
 
 module _ (P : Span → Type 0) where

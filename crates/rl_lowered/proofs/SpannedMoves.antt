@@ -3,11 +3,7 @@ use Rattle.std.proofs.Common.{◌≡◌, ℕ, List, [], ◌∷◌, Option, Some,
 use Rattle.std.specs.Prelude.{IfSome}
 use Rattle.std.specs.Option.{option_or}
 use Rattle.std.proofs.lemmas.List.Elements.{All-cons, All-nil, All-push}
-use Rattle.rl_base.specs.declared.diagnostic.Diagnostic.{Diagnostic}
-use Rattle.rl_base.specs.declared.ids.BlockId.{BlockId}
-use Rattle.rl_base.specs.declared.ids.SymbolId.{SymbolId}
-use Rattle.rl_base.specs.declared.span.Span.{Span}
-use Rattle.rl_builder.specs.Builder.{State, completed_by, ended_by, entered, innermost, maybe_throw, new_block}
+use Rattle.rl_builder.specs.Builder.{completed_by, ended_by, entered, innermost, maybe_throw, new_block}
 use Rattle.rl_builder.specs.Builder.{plainly_pushed, pushed, pushed_under, recorded, reserved, with_temporary, with_type}
 use Rattle.rl_builder.specs.Names.{fresh_identifier, new_span, resolved, resolved_by}
 use Rattle.rl_builder.specs.Temporaries.{temporary, unordered, with_value}
@@ -21,18 +17,16 @@ use Rattle.rl_hir.specs.declared.function.BlockKind.{BlockKind}
 use Rattle.rl_hir.specs.declared.function.Identifier.{Identifier}
 use Rattle.rl_hir.specs.declared.instruction.Instruction.{Instruction}
 use Rattle.rl_hir.specs.declared.instruction.InstructionKind.TheVariants as variables
-use Rattle.rl_hir.specs.declared.instruction.InstructionValue.{InstructionValue}
 use Rattle.rl_hir.specs.declared.instruction.InstructionValue.TheVariants as values
-use Rattle.rl_hir.specs.declared.instruction.Place.{Place}
 use Rattle.rl_hir.specs.declared.terminal.GotoVariant.{GotoVariant}
 use Rattle.rl_hir.specs.declared.terminal.ReturnVariant.{ReturnVariant}
 use Rattle.rl_hir.specs.declared.terminal.Terminal.{Terminal}
+use Rattle.rl_lowered.proofs.Common.{BlockId, Diagnostic, InstructionValue, Names, Place, Span, State, SymbolId}
 use Rattle.rl_lowered.proofs.Redeclared.{all_changed}
 use Rattle.rl_lowered.specs.Items.{redeclared}
 use Rattle.rl_lowered.specs.Named.{found}
 use Rattle.rl_lowered.specs.Spanned.{KeepsSpans}
 use Rattle.rl_model.specs.WellFormed.{value_places}
-use Rattle.rl_names.specs.Names.{Names}
 use Rattle.rl_promises.specs.Spans.{AreSpanned, IsSpannedInstruction, IsSpannedTerminal, type_span}
 use Rattle.rl_runs.specs.Moves.{goto, last_hole, next_hole, return_of, returned_from, stored_in}
 use Rattle.rl_used_names.specs.Choosing.{chosen}

@@ -1,15 +1,14 @@
 -- The spans of a tree's nodes are those of nodes of the tree.
 use Rattle.std.proofs.Common.{ℕ, List, [], ◌∷◌, All, Option, Some, None, inl, inr, refl}
 use Rattle.std.proofs.lemmas.List.Elements.{All-append, All-cons, All-nil}
-use Rattle.rl_base.specs.declared.ids.SymbolId.{SymbolId}
-use Rattle.rl_base.specs.declared.span.Span.{Span}
+use Rattle.rl_lowered.proofs.Common.{End, Names, Node, Pieces, Said, Span, SymbolId, Syntax, Then}
 use Rattle.rl_lowered.specs.Spanned.{EachSpan, EachSpanAmong}
 use Rattle.rl_names.specs.Functions.{body_in, params_in, parameters_of}
-use Rattle.rl_names.specs.Names.{Names, parameter_of, parameters_among, parameters_in}
+use Rattle.rl_names.specs.Names.{parameter_of, parameters_among, parameters_in}
 use Rattle.rl_names.specs.declared.parameters.Parameter.{Parameter}
 use Rattle.rl_promises.specs.Spans.{IsSpanAmong, IsSpanOf}
 use Rattle.rl_semantic.specs.Items.{of_item}
-use Rattle.rl_syntax.specs.Syntax.{Syntax, Node, Listed, Said, Count, Flag, Absent, Pieces, End, Then}
+use Rattle.rl_syntax.specs.Syntax.{Listed, Count, Flag, Absent}
 use Rattle.rl_syntax.specs.declared.word.Word.TheVariants as word
 
 mutual

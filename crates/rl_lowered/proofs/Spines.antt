@@ -1,30 +1,24 @@
 -- The refusals of chains by their links, and expressions that were lowered off the spine of a chain: they have no optional link on a
 -- spine of their own, so that they have the same refusals below a link.
 use Rattle.std.proofs.Common.{◌≡◌, ◌++◌, Bool, true, false, if◌then◌else◌, List, [], ◌∷◌, Option, refl, sym, ap, ◌∙◌}
-use Rattle.rl_base.specs.declared.diagnostic.Diagnostic.{Diagnostic}
-use Rattle.rl_base.specs.declared.ids.BlockId.{BlockId}
 use Rattle.rl_base.specs.declared.row.Row.{Row}
 use Rattle.rl_base.specs.declared.row.Row.TheVariants as row
-use Rattle.rl_builder.specs.Builder.{State}
-use Rattle.rl_hir.specs.declared.instruction.InstructionValue.{InstructionValue}
-use Rattle.rl_hir.specs.declared.instruction.Place.{Place}
 use Rattle.rl_hir.specs.declared.instruction.PrimitiveValue.{PrimitiveValue}
-use Rattle.rl_hir.specs.Pieces.{Piece}
 use Rattle.rl_lowered.proofs.CleanChains.{spine_place}
+use Rattle.rl_lowered.proofs.Common.{At, BlockId, Diagnostic, End, InstructionValue, Names, Node, Piece, Pieces, Place, Said, State, Syntax}
+use Rattle.rl_lowered.proofs.Common.{Then}
 use Rattle.rl_lowered.proofs.Refusals.{member_refuses}
 use Rattle.rl_lowered.specs.Forms.{Front, IsCast, IsForm, IsLinkKey, IsLiteral, IsMember, IsPrivate, IsRefused, IsRefusing, IsWrapper}
 use Rattle.rl_lowered.specs.Forms.{MemberKey}
 use Rattle.rl_lowered.specs.Forms as forms
 use Rattle.rl_lowered.specs.Lowered.{Lowered, LoweredLink, LoweredParts}
 use Rattle.rl_lowered.specs.Lowered as lowered
-use Rattle.rl_names.specs.Names.{Names}
 use Rattle.rl_promises.specs.Chains.{Below, Spine, Top, below_link}
 use Rattle.rl_promises.specs.Rows.{refusal, refusals, refusals_by, refusals_in}
 use Rattle.rl_rules.specs.Chains.{has_optional}
-use Rattle.rl_syntax.specs.declared.numbered.At.{At}
 use Rattle.rl_syntax.specs.declared.word.Word.{Word}
 use Rattle.rl_syntax.specs.declared.word.Word.TheVariants as word
-use Rattle.rl_syntax.specs.Syntax.{End, Flag, Listed, Node, Pieces, Said, Syntax, Then}
+use Rattle.rl_syntax.specs.Syntax.{Flag, Listed}
 
 -- Below a link the expression has the refusals that it has off the spine of a chain.
 pub record IsOffSpine (names : Names) (e : Syntax) : Type 0 where

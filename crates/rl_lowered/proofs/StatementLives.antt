@@ -3,10 +3,8 @@ use Rattle.std.proofs.Common.{◌≡◌, ℕ, ◌+◌, ◌++◌, ◌||◌, Bool,
 use Rattle.std.proofs.Common.{sym, ap, ◌∙◌, is_some, subst, append-nil}
 use Rattle.std.proofs.lemmas.List.{append_assoc}
 use Rattle.rl_base.proofs.Bools.{or_true}
-use Rattle.rl_base.specs.declared.ids.BlockId.{BlockId}
-use Rattle.rl_base.specs.declared.span.Span.{Span}
 use Rattle.rl_base.specs.VariableKinds.{variable_text}
-use Rattle.rl_builder.specs.Builder.{State, completed_by, innermost, new_block, reserved}
+use Rattle.rl_builder.specs.Builder.{completed_by, innermost, new_block, reserved}
 use Rattle.rl_builder.specs.Jumps.{lookup_break, lookup_continue}
 use Rattle.rl_builder.specs.Temporaries.{temporary, with_value}
 use Rattle.rl_frames.proofs.ForFronts.{init_comes}
@@ -24,9 +22,7 @@ use Rattle.rl_frames.specs.Parts.{try_bound, try_finished, try_handler, try_star
 use Rattle.rl_frames.specs.SwitchParts.{case_ended, fall_of, switch_finished}
 use Rattle.rl_hir.specs.declared.function.BlockKind.TheVariants as blocks
 use Rattle.rl_hir.specs.declared.instruction.InstructionKind.TheVariants as variables
-use Rattle.rl_hir.specs.declared.instruction.InstructionValue.{InstructionValue}
 use Rattle.rl_hir.specs.declared.instruction.InstructionValue.TheVariants as values
-use Rattle.rl_hir.specs.declared.instruction.Place.{Place}
 use Rattle.rl_hir.specs.declared.instruction.PrimitiveValue.TheVariants as primitives
 use Rattle.rl_hir.specs.declared.terminal.Case.{Case}
 use Rattle.rl_hir.specs.declared.terminal.GotoVariant.{GotoVariant}
@@ -40,6 +36,7 @@ use Rattle.rl_lowered.proofs.Clean.{declared_pattern_clean}
 use Rattle.rl_lowered.proofs.Clean.{among_clean, branches_clean_at, case_clean, constant_head_never, finalizer_never, first_none, for_clean}
 use Rattle.rl_lowered.proofs.Clean.{lost_head_never, member_head_clean, moved_never, never, rounds_clean, second_none, switch_clean}
 use Rattle.rl_lowered.proofs.Clean.{throw_clean, try_clean, while_clean}
+use Rattle.rl_lowered.proofs.Common.{At, BlockId, End, InstructionValue, Names, Node, Pieces, Place, Said, Span, State, Syntax, Then}
 use Rattle.rl_lowered.proofs.HeldItems.{declared_pattern_held, pattern_stored}
 use Rattle.rl_lowered.proofs.HeldParts.{bind_held, declared_head_held, member_held}
 use Rattle.rl_lowered.proofs.LiveFrames.{lives_left, row_lives, value_keyless}
@@ -67,7 +64,6 @@ use Rattle.rl_machine.specs.Machine.{Code, default_case}
 use Rattle.rl_model.specs.Actions.{Label}
 use Rattle.rl_model.specs.Dead.{Lives as DeadLives, Outs, declares, either, goes_on, has_default, is_broken, lives, lives_all, lives_cases}
 use Rattle.rl_model.specs.Dead.{lives_in_try, loop_outs, switch_outs}
-use Rattle.rl_names.specs.Names.{Names}
 use Rattle.rl_promises.specs.Jumps.{is_loop}
 use Rattle.rl_promises.specs.Live.{Held, held_among, held_in, live_all, live_cases, live_in, live_in_body}
 use Rattle.rl_promises.specs.Moved.{said_of_moved}
@@ -82,9 +78,8 @@ use Rattle.rl_runs.proofs.Statements.{extends_returned, extends_threw}
 use Rattle.rl_runs.specs.Blocks.{IsLedTo, Leaves, Lives, PreservesBlocks}
 use Rattle.rl_runs.specs.Facts.{Extends, IsContainedIn}
 use Rattle.rl_runs.specs.Moves.{block_id, next_hole, return_of, returned_from}
-use Rattle.rl_syntax.specs.declared.numbered.At.{At}
 use Rattle.rl_syntax.specs.declared.word.Word.TheVariants as word
-use Rattle.rl_syntax.specs.Syntax.{Absent, End, Listed, Node, Pieces, Said, Syntax, Then, span_of}
+use Rattle.rl_syntax.specs.Syntax.{Absent, Listed, span_of}
 
 -- A statement with these exits: where it is reached, its live instructions stand in reached blocks, the targets of its jumps are reached,
 -- and so is the handler around it if it acts.

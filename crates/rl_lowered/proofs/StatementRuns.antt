@@ -3,13 +3,10 @@ use Rattle.std.proofs.Common.{◌++◌}
 use Rattle.std.proofs.Common.{◌≡◌, ℕ, ◌||◌, Bool, true, false, true≢false, List, [], ◌∷◌, length, codes, Option, Some, None, refl, sym}
 use Rattle.std.proofs.Common.{ap, if◌then◌else◌, ◌∙◌, subst, arith}
 use Rattle.std.proofs.lemmas.Bool.{or_parts}
-use Rattle.rl_base.specs.declared.ids.BlockId.{BlockId}
-use Rattle.rl_base.specs.declared.ids.SymbolId.{SymbolId}
-use Rattle.rl_base.specs.declared.span.Span.{Span}
 use Rattle.rl_base.specs.declared.variable_kind.VariableKind.{VariableKind}
 use Rattle.rl_base.specs.declared.variable_kind.VariableKind.TheVariants as kinds
 use Rattle.rl_base.specs.VariableKinds.{variable_text}
-use Rattle.rl_builder.specs.Builder.{State, completed_by, innermost, new_block, reserved}
+use Rattle.rl_builder.specs.Builder.{completed_by, innermost, new_block, reserved}
 use Rattle.rl_builder.specs.declared.blocks.WipBlock.{WipBlock}
 use Rattle.rl_builder.specs.Temporaries.{temporary, with_value}
 use Rattle.rl_frames.proofs.Enumerations.{forin_runs}
@@ -27,7 +24,6 @@ use Rattle.rl_frames.specs.SwitchParts.{switch_finished}
 use Rattle.rl_hir.specs.declared.function.BlockKind.TheVariants as blocks
 use Rattle.rl_hir.specs.declared.instruction.InstructionKind.{InstructionKind}
 use Rattle.rl_hir.specs.declared.instruction.InstructionValue.TheVariants as values
-use Rattle.rl_hir.specs.declared.instruction.Place.{Place}
 use Rattle.rl_hir.specs.declared.instruction.PrimitiveValue.TheVariants as primitives
 use Rattle.rl_hir.specs.declared.terminal.Case.{Case}
 use Rattle.rl_hir.specs.declared.terminal.GotoVariant.TheVariants as gotos
@@ -41,6 +37,7 @@ use Rattle.rl_lowered.proofs.CatchRuns.{CasesRun, case_test_runs, caught_meaning
 use Rattle.rl_lowered.proofs.Clean.{among_clean, branches_clean_at, case_clean, finalizer_never, first_none, for_clean, never}
 use Rattle.rl_lowered.proofs.Clean.{second_none}
 use Rattle.rl_lowered.proofs.Clean.{rounds_clean, row_clean, switch_clean, throw_clean, try_clean, while_clean}
+use Rattle.rl_lowered.proofs.Common.{At, BlockId, End, Names, Node, Pieces, Place, Said, Span, State, SymbolId, Syntax, Then}
 use Rattle.rl_lowered.proofs.HeadRuns.{head_runs}
 use Rattle.rl_lowered.proofs.PatternRuns.{binding_runs, taken_jumpless}
 use Rattle.rl_lowered.proofs.Plain.{declared_meant, init_said, lowered_plain, operand_there, undeclared_meant}
@@ -74,7 +71,6 @@ use Rattle.rl_model.specs.Patterns as patterns
 use Rattle.rl_model.specs.Scene.{Scene}
 use Rattle.rl_model.specs.Statements.{declare_all, declare_one, eval_optional, exec, exec_all, has_meaning, take_head}
 use Rattle.rl_model.specs.Shapes.{is_absent}
-use Rattle.rl_names.specs.Names.{Names}
 use Rattle.rl_promises.specs.Jumps.{is_loop}
 use Rattle.rl_promises.specs.Rows.{refusals, refusals_among, refusals_at, refusals_in, refusals_in_body, refusals_in_cases, said_of_init}
 use Rattle.rl_promises.specs.Rows.{said_of_test}
@@ -94,9 +90,8 @@ use Rattle.rl_runs.specs.Exits.{labeled_by}
 use Rattle.rl_runs.specs.Facts.{Extends, IsContainedIn}
 use Rattle.rl_runs.specs.Moves.{next_hole, return_of, returned_from, threw_from}
 use Rattle.rl_runs.specs.Simulation.{RunsExpression, RunsJumpless, RunsStatement}
-use Rattle.rl_syntax.specs.declared.numbered.At.{At}
 use Rattle.rl_syntax.specs.declared.word.Word.TheVariants as word
-use Rattle.rl_syntax.specs.Syntax.{Absent, End, Listed, Node, Pieces, Said, Syntax, Then, span_of}
+use Rattle.rl_syntax.specs.Syntax.{Absent, Listed, span_of}
 
 -- The place of an identifier at a span.
 abbrev there_at : ℕ → Span → Place

@@ -1,15 +1,13 @@
 -- The table has an instruction for each call, construction, await and store of a statement, where nothing of it was refused.
 use Rattle.std.proofs.Common.{◌≡◌, ℕ, ◌+◌, ◌++◌, Bool, true, false, List, [], Option, Some, None, refl}
 use Rattle.std.proofs.Common.{sym, ap, ◌∙◌, arith, subst}
-use Rattle.rl_base.specs.declared.span.Span.{Span}
 use Rattle.rl_base.specs.declared.variable_kind.VariableKind.{VariableKind}
 use Rattle.rl_base.specs.VariableKinds.{variable_text}
-use Rattle.rl_builder.specs.Builder.{State, reserved}
+use Rattle.rl_builder.specs.Builder.{reserved}
 use Rattle.rl_frames.specs.Rounds.{ForOfParts, RoundsParts, forin_at, forin_headed, forof_at, forof_headed, forof_iterator, forof_shut}
 use Rattle.rl_frames.specs.Rounds.{forof_tested, rounds_shut}
 use Rattle.rl_hir.specs.declared.instruction.Instruction.{Instruction}
 use Rattle.rl_hir.specs.declared.instruction.InstructionValue.TheVariants as values
-use Rattle.rl_hir.specs.declared.instruction.Place.{Place}
 use Rattle.rl_hir.specs.declared.instruction.PrimitiveValue.TheVariants as primitives
 use Rattle.rl_hir.specs.declared.terminal.Case.{Case}
 use Rattle.rl_lowered.proofs.Blocks.{declares_of}
@@ -21,6 +19,7 @@ use Rattle.rl_lowered.proofs.Clean.{moved_never, never}
 use Rattle.rl_lowered.proofs.Clean.{rounds_clean, second_none}
 use Rattle.rl_lowered.proofs.Clean.{switch_clean, throw_clean, try_clean}
 use Rattle.rl_lowered.proofs.Clean.{while_clean}
+use Rattle.rl_lowered.proofs.Common.{At, End, Names, Node, Pieces, Place, Said, Span, State, Syntax, Then}
 use Rattle.rl_lowered.proofs.HeldParts.{declared_head_held}
 use Rattle.rl_lowered.proofs.HeldParts.{member_held, member_unstored, bind_held}
 use Rattle.rl_lowered.proofs.Plain.{init_said, lowered_plain}
@@ -47,7 +46,6 @@ use Rattle.rl_lowered.specs.Lowered.{kind_of, label_part}
 use Rattle.rl_lowered.specs.Named.{found}
 use Rattle.rl_model.specs.Actions.{Label}
 use Rattle.rl_model.specs.Counted.{Counted}
-use Rattle.rl_names.specs.Names.{Names}
 use Rattle.rl_promises.specs.Held.{times}
 use Rattle.rl_promises.specs.Live.{Held, held_in}
 use Rattle.rl_promises.specs.Moved.{said_of_moved}
@@ -56,9 +54,8 @@ use Rattle.rl_promises.specs.Rows.{refusals_in_cases, said_of_init, said_of_test
 use Rattle.rl_promises.specs.Tallies.{IsHeldKind}
 use Rattle.rl_promises.specs.Tallies.{store_word, tallied}
 use Rattle.rl_promises.specs.Tallies.{tallied_among}
-use Rattle.rl_syntax.specs.declared.numbered.At.{At}
 use Rattle.rl_syntax.specs.declared.word.Word.TheVariants as word
-use Rattle.rl_syntax.specs.Syntax.{Absent, End, Listed, Node, Pieces, Said, Syntax, Then, span_of}
+use Rattle.rl_syntax.specs.Syntax.{Absent, Listed, span_of}
 use Rattle.rl_lowered.proofs.Clean.{declared_pattern_clean}
 use Rattle.rl_lowered.proofs.HeldItems.{declared_pattern_held, pattern_stored, pattern_unstored}
 use Rattle.rl_lowered.proofs.PatternTallies.{declarators_tallies, pattern_tallies}

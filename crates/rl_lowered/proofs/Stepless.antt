@@ -1,12 +1,11 @@
 -- A builder that began without blocks reads no note behind a construct whose terminal `build` may replace, and has no step of a loop where
 -- none may stand.
 use Rattle.std.proofs.Common.{◌≡◌, ℕ, inl, inr, List, [], Some, slice_get, sym, ap, ◌∙◌, subst}
-use Rattle.rl_base.specs.declared.ids.BlockId.{BlockId}
 use Rattle.rl_base.specs.declared.ids.InstructionId.{InstructionId}
-use Rattle.rl_builder.specs.Builder.{State}
 use Rattle.rl_builder.specs.declared.jumps.JumpScope.{JumpScope}
 use Rattle.rl_hir.specs.Blocks.{Pair as BlockPair}
 use Rattle.rl_hir.specs.declared.terminal.TerminalKind.{TerminalKind}
+use Rattle.rl_lowered.proofs.Common.{BlockId, State}
 use Rattle.rl_lowered.specs.Steps.{KeepsStepsApart}
 use Rattle.rl_runs.proofs.StepNotes.{none_at, none_listed}
 use Rattle.rl_runs.specs.Blocks.{ByBreak, ByContinue, ByHandler, IsOneOf, IsTarget}

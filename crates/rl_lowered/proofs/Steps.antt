@@ -1,11 +1,8 @@
 -- The lowering of a part keeps the steps of loops apart from the blocks at which none may stand.
 use Rattle.std.proofs.Common.{◌≡◌, ℕ, ◌+◌, ◌≤◌, inl, inr, true, false, List, [], ◌∷◌, Option, Some, None, refl, arith, subst}
-use Rattle.rl_base.specs.declared.diagnostic.Diagnostic.{Diagnostic}
-use Rattle.rl_base.specs.declared.ids.BlockId.{BlockId}
 use Rattle.rl_base.specs.declared.row.Row.TheVariants as row
-use Rattle.rl_base.specs.declared.span.Span.{Span}
 use Rattle.rl_base.specs.Diagnostics.{diagnostic_at}
-use Rattle.rl_builder.specs.Builder.{State, completed_by, innermost, new_block, recorded, reserved, with_temporary}
+use Rattle.rl_builder.specs.Builder.{completed_by, innermost, new_block, recorded, reserved, with_temporary}
 use Rattle.rl_builder.specs.Temporaries.{temporary, unordered, with_value}
 use Rattle.rl_frames.specs.Frames.{ForParts, IfParts, for_after_init}
 use Rattle.rl_frames.specs.Frames.{for_after_update, for_again, for_aside, for_at, for_bodied, for_inited, for_opened, for_updated}
@@ -19,7 +16,6 @@ use Rattle.rl_frames.specs.Rounds.{forof_righted, forof_shut, forof_tested, roun
 use Rattle.rl_frames.specs.SwitchParts.{case_begun, case_ended, fall_of, switch_begun, switch_end}
 use Rattle.rl_hir.specs.declared.function.BlockKind.TheVariants as blocks
 use Rattle.rl_hir.specs.declared.instruction.InstructionValue.TheVariants as values
-use Rattle.rl_hir.specs.declared.instruction.Place.{Place}
 use Rattle.rl_hir.specs.declared.instruction.PrimitiveValue.TheVariants as primitives
 use Rattle.rl_hir.specs.declared.terminal.Case.{Case}
 use Rattle.rl_hir.specs.declared.terminal.GotoVariant.TheVariants as gotos
@@ -27,6 +23,7 @@ use Rattle.rl_hir.specs.declared.terminal.ReturnVariant.TheVariants as returns
 use Rattle.rl_hir.specs.declared.terminal.Terminal.{Terminal}
 use Rattle.rl_hir.specs.declared.terminal.TerminalKind.TheVariants as kinds
 use Rattle.rl_lowered.proofs.Catches.{catch_declared, declares_caught, stores_caught}
+use Rattle.rl_lowered.proofs.Common.{BlockId, Diagnostic, Names, Pieces, Place, Span, State, Syntax}
 use Rattle.rl_lowered.proofs.StepMoves.{apart_ended, apart_hole, apart_marked, apart_next, apart_noted}
 use Rattle.rl_lowered.proofs.StepMoves.{apart_refl}
 use Rattle.rl_lowered.proofs.StepMoves.{apart_same, apart_step, apart_then, apart_value, unmarked_between}
@@ -40,7 +37,6 @@ use Rattle.rl_lowered.specs.Lowered.{part_span, throwing, throwing_under}
 use Rattle.rl_lowered.specs.Lowered as lowered
 use Rattle.rl_lowered.specs.Steps.{KeepsStepsApart}
 use Rattle.rl_model.specs.Actions.{Label}
-use Rattle.rl_names.specs.Names.{Names}
 use Rattle.rl_promises.specs.Moved.{type_name}
 use Rattle.rl_promises.specs.Rows.{refusal}
 use Rattle.rl_runs.proofs.Moves.{extends_pushed}
@@ -50,7 +46,7 @@ use Rattle.rl_runs.specs.Moves.{block_id, branch, ends_by, goto, last_hole, next
 use Rattle.rl_runs.specs.Moves.{without_handler, without_scope}
 use Rattle.rl_runs.specs.ReadNotes.{HasId}
 use Rattle.rl_runs.specs.StepNotes.{stepless_of}
-use Rattle.rl_syntax.specs.Syntax.{Pieces, Syntax, span_of}
+use Rattle.rl_syntax.specs.Syntax.{span_of}
 pub use Rattle.rl_lowered.proofs.ExpressionSteps.{all_steps, bound_steps, expression_steps, front_steps, last_steps, later_steps}
 pub use Rattle.rl_lowered.proofs.ExpressionSteps.{link_steps, moved_steps, params_steps, pattern_steps, spine_steps, target_steps}
 use Rattle.rl_lowered.proofs.ExpressionSteps.{apart_declaring, apart_found_value, apart_returned, declarators_steps, head_steps}

@@ -1,13 +1,10 @@
 -- The items of targets that are patterns record the refusals of their keys and names; those of the parts that are left come behind.
 use Rattle.std.proofs.Common.{◌≡◌, ◌++◌, Bool, true, false, not, if◌then◌else◌, List, [], ◌∷◌, Option, refl, sym, ap, ◌∙◌}
 use Rattle.std.proofs.Common.{append-nil, append_assoc}
-use Rattle.rl_base.specs.declared.diagnostic.Diagnostic.{Diagnostic}
-use Rattle.rl_base.specs.declared.ids.SymbolId.{SymbolId}
 use Rattle.rl_base.specs.declared.row.Row.TheVariants as row
-use Rattle.rl_base.specs.declared.span.Span.{Span}
 use Rattle.rl_base.specs.Diagnostics.{diagnostic_at}
-use Rattle.rl_builder.specs.Builder.{State, recorded}
-use Rattle.rl_hir.specs.Pieces.{Piece}
+use Rattle.rl_builder.specs.Builder.{recorded}
+use Rattle.rl_lowered.proofs.Common.{At, Diagnostic, End, Names, Node, Piece, Pieces, Span, State, SymbolId, Syntax, Then}
 use Rattle.rl_lowered.proofs.Records.{found_said, records_all, records_none, records_same, records_then, said}
 use Rattle.rl_lowered.specs.Forms.{IsProperty}
 use Rattle.rl_lowered.specs.Items.{Later, key_met, promoted}
@@ -15,13 +12,11 @@ use Rattle.rl_lowered.specs.Items as items
 use Rattle.rl_lowered.specs.Named.{found}
 use Rattle.rl_model.specs.Patterns.{is_turn}
 use Rattle.rl_model.specs.Shapes.{is_plain_rest}
-use Rattle.rl_names.specs.Names.{Names}
 use Rattle.rl_promises.specs.Patterns.{fraction_in, is_lost_item, lost_item, lost_rest, said_of_fraction, said_of_key}
 use Rattle.rl_promises.specs.Rows.{Records, label_of, said_of_local}
-use Rattle.rl_syntax.specs.declared.numbered.At.{At}
 use Rattle.rl_syntax.specs.declared.word.Word.{Word}
 use Rattle.rl_syntax.specs.declared.word.Word.TheVariants as word
-use Rattle.rl_syntax.specs.Syntax.{End, Listed, Node, Pieces, Syntax, Then, span_of}
+use Rattle.rl_syntax.specs.Syntax.{Listed, span_of}
 use Rattle.rl_lowered.proofs.ItemForms.{item_taken}
 use Rattle.rl_lowered.proofs.ItemRefused.{key_refused}
 use Rattle.rl_lowered.proofs.Refusals.{stored_head_refuses}

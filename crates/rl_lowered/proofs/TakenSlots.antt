@@ -1,11 +1,11 @@
 -- The items of a target that is a pattern: the slots that take its pieces. They are all variables, or all temporaries.
 use Rattle.std.proofs.Common.{◌≡◌, ℕ, ◌+◌, ◌++◌, Bool, true, false, true≢false, if◌then◌else◌, List, [], ◌∷◌, length, map}
 use Rattle.std.proofs.Common.{append_assoc, codes, refl, sym, ap, ◌∙◌, arith}
-use Rattle.rl_builder.specs.Builder.{State}
-use Rattle.rl_hir.specs.Pieces.{Piece, operands, texts}
+use Rattle.rl_hir.specs.Pieces.{operands, texts}
 use Rattle.rl_lowered.proofs.BoundSlots.{AreClean, keyed, met_ident, promoted_free}
 use Rattle.rl_lowered.proofs.Catches.{extends_promoted, length_promoted}
 use Rattle.rl_lowered.proofs.Clean.{constant_head_never, first_none, second_none}
+use Rattle.rl_lowered.proofs.Common.{Names, Piece, Pieces, State, Syntax, Then}
 use Rattle.rl_lowered.proofs.ItemBlocks.{stays_key, stays_key_met, taken_stays}
 use Rattle.rl_lowered.proofs.ItemForms.{item_hole, item_key, item_shape, item_taken, item_takes, item_targets, lost_never}
 use Rattle.rl_lowered.proofs.SlotRuns.{AreSlots, Keeps, NextKeeps, NextSets, NoSlot, Sets, Slot, followed, kept_of, set_slots, slot_at}
@@ -21,13 +21,12 @@ use Rattle.rl_model.specs.Actions.{◌>>=◌, ◌>>◌, Action, Ways, done}
 use Rattle.rl_model.specs.Expressions.{assign_items, assign_to, first_piece, later_pieces, write}
 use Rattle.rl_model.specs.Scene.{Scene}
 use Rattle.rl_model.specs.Shapes.{have_keys, is_hole, is_plain_rest, piece_shape, piece_shapes, rest_shape}
-use Rattle.rl_names.specs.Names.{Names}
 use Rattle.rl_names.specs.declared.names.Meaning.{Meaning}
 use Rattle.rl_promises.specs.Patterns.{said_of_key}
 use Rattle.rl_promises.specs.Rows.{refusals_to, refusals_to_round}
 use Rattle.rl_runs.proofs.Moves.{contained_before}
 use Rattle.rl_runs.specs.Facts.{HasSoundNames, IsContainedIn}
-use Rattle.rl_syntax.specs.Syntax.{Syntax, Pieces, Then, span_of}
+use Rattle.rl_syntax.specs.Syntax.{span_of}
 
 -- The items, and the rest behind them.
 abbrev pub taking : Scene → Pieces → (rest : Syntax) → List Value → Action (Unit {0})

@@ -1,14 +1,12 @@
 -- Moves of the lowering add to the instructions that a counted node counts as many as the nodes that they are made for.
 use Rattle.std.proofs.Common.{◌≡◌, ℕ, ◌+◌, ◌++◌, ◌&&◌, if◌then◌else◌, Bool, true, false, List, [], ◌∷◌, Option, Some, None, codes, refl}
 use Rattle.std.proofs.Common.{sym, ap, ◌∙◌, arith}
-use Rattle.rl_base.specs.declared.ids.BlockId.{BlockId}
 use Rattle.rl_base.specs.declared.operator.UpdateOperator.{UpdateOperator}
-use Rattle.rl_base.specs.declared.span.Span.{Span}
 use Rattle.rl_base.specs.declared.type_kind.TypeKind.{TypeKind}
 use Rattle.rl_base.specs.declared.type_kind.TypeKind.TheVariants as types
 use Rattle.rl_base.specs.declared.variable_kind.VariableKind.{VariableKind}
 use Rattle.rl_base.specs.declared.variable_kind.VariableKind.TheVariants as kinds
-use Rattle.rl_builder.specs.Builder.{State, entered, innermost, new_block, pushed, pushed_under, reserved, with_temporary}
+use Rattle.rl_builder.specs.Builder.{entered, innermost, new_block, pushed, pushed_under, reserved, with_temporary}
 use Rattle.rl_builder.specs.Temporaries.{temporary, unordered, with_value}
 use Rattle.rl_frames.specs.Parts.{chain_reserved, loads}
 use Rattle.rl_grammar.proofs.Viewing.{rest_fit}
@@ -18,10 +16,9 @@ use Rattle.rl_hir.specs.declared.function.BlockKind.TheVariants as blocks
 use Rattle.rl_hir.specs.declared.instruction.Instruction.{Instruction}
 use Rattle.rl_hir.specs.declared.instruction.InstructionKind.{InstructionKind}
 use Rattle.rl_hir.specs.declared.instruction.InstructionKind.TheVariants as variables
-use Rattle.rl_hir.specs.declared.instruction.InstructionValue.{InstructionValue}
 use Rattle.rl_hir.specs.declared.instruction.InstructionValue.TheVariants as values
-use Rattle.rl_hir.specs.declared.instruction.Place.{Place}
 use Rattle.rl_hir.specs.declared.instruction.PrimitiveValue.TheVariants as primitives
+use Rattle.rl_lowered.proofs.Common.{BlockId, End, InstructionValue, Names, Node, Pieces, Place, Said, Span, State, Syntax, Then}
 use Rattle.rl_lowered.proofs.HeldParts.{HeldBy, IsHeldAs, Unheld}
 use Rattle.rl_lowered.proofs.HeldParts.{counted_among, is_held}
 use Rattle.rl_lowered.proofs.Sums.{added_behind}
@@ -34,7 +31,6 @@ use Rattle.rl_lowered.specs.Lowered.{kind_of, member_loaded, member_one, member_
 use Rattle.rl_lowered.specs.Lowered.{member_updated, throwing, throwing_under, update_of}
 use Rattle.rl_model.specs.Counted.{Counted}
 use Rattle.rl_model.specs.Worlds.{is_reassign}
-use Rattle.rl_names.specs.Names.{Names}
 use Rattle.rl_base.specs.declared.operator.BinaryOperator.TheVariants as operators
 use Rattle.rl_hir.specs.declared.instruction.Pattern.{Pattern}
 use Rattle.rl_optional_frames.specs.Frames.{default_at, default_ended}
@@ -48,7 +44,7 @@ use Rattle.rl_promises.specs.Tallies.{Awaits, Calls, Constructions, IsHeldKind, 
 use Rattle.rl_promises.specs.Tallies.{stores_at, tallied, tally_of}
 use Rattle.rl_promises.specs.Tallies.{tallied_among}
 use Rattle.rl_runs.specs.Moves.{stored_in}
-use Rattle.rl_syntax.specs.Syntax.{Absent, Count, End, Flag, Listed, Node, Pieces, Said, Syntax, Then}
+use Rattle.rl_syntax.specs.Syntax.{Absent, Count, Flag, Listed}
 
 -- The table of a state with one more instruction.
 pub table_under : (o : Option BlockId) (s : State) (i : Instruction) → (pushed_under o s i).table ≡ s.table ++ i ∷ []

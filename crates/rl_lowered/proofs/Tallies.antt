@@ -1,17 +1,12 @@
 -- The table has an instruction for each call, construction, await and store of an expression, where nothing of it was refused.
 use Rattle.std.proofs.Common.{◌≡◌, ℕ, ◌+◌, ◌++◌, Bool, false, List, [], ◌∷◌, Option, Some, codes, refl}
 use Rattle.std.proofs.Common.{sym, ap, ◌∙◌, arith}
-use Rattle.rl_base.specs.declared.ids.BlockId.{BlockId}
-use Rattle.rl_base.specs.declared.span.Span.{Span}
 use Rattle.rl_base.specs.Operators.{assignment_text, update_text}
-use Rattle.rl_builder.specs.Builder.{State}
 use Rattle.rl_builder.specs.Temporaries.{temporary, with_value}
 use Rattle.rl_frames.specs.Parts.{logical_entered, logical_left, logical_place, sequence_place, ternary_place}
 use Rattle.rl_hir.specs.declared.instruction.Instruction.{Instruction}
 use Rattle.rl_hir.specs.declared.instruction.InstructionKind.TheVariants as variables
 use Rattle.rl_hir.specs.declared.instruction.InstructionValue.TheVariants as values
-use Rattle.rl_hir.specs.declared.instruction.Place.{Place}
-use Rattle.rl_hir.specs.Pieces.{Piece}
 use Rattle.rl_lowered.proofs.Clean.{assigned_clean, assigned_member_clean, branches_clean}
 use Rattle.rl_lowered.proofs.Clean.{cast_clean, compound_clean, compound_member_clean, computed_row_clean, constant_assigned_never}
 use Rattle.rl_lowered.proofs.Clean.{constant_compound_never, constant_head_never, constant_update_never, first_none}
@@ -20,6 +15,7 @@ use Rattle.rl_lowered.proofs.Clean.{moved_never, outer_never, private_assigned_n
 use Rattle.rl_lowered.proofs.Clean.{property_row_clean, refused_never, refusing_never, row_clean, second_none}
 use Rattle.rl_lowered.proofs.Clean.{spread_row_clean, unknown_row_never, updated_member_clean}
 use Rattle.rl_lowered.proofs.Clean.{wrapper_clean}
+use Rattle.rl_lowered.proofs.Common.{BlockId, End, Names, Node, Piece, Pieces, Place, Said, Span, State, Syntax, Then}
 use Rattle.rl_lowered.proofs.HeldParts.{call_link_held, link_held, link_word}
 use Rattle.rl_lowered.proofs.HeldParts.{HeldBy, assigned_held, assigned_member_held, cast_held, compound_held}
 use Rattle.rl_lowered.proofs.HeldParts.{form_held, form_span, form_word}
@@ -57,7 +53,6 @@ use Rattle.rl_lowered.specs.Lowered.{member_computed}
 use Rattle.rl_lowered.specs.Lowered.{name_computed, name_stored, value_span}
 use Rattle.rl_lowered.specs.Named.{found}
 use Rattle.rl_model.specs.Counted.{Counted}
-use Rattle.rl_names.specs.Names.{Names}
 use Rattle.rl_promises.proofs.Unheld.{unheld_untallied}
 use Rattle.rl_promises.specs.Held.{times}
 use Rattle.rl_promises.specs.Live.{Held, held_in}
@@ -68,7 +63,7 @@ use Rattle.rl_promises.specs.Tallies.{IsHeldKind, call_word, held_word}
 use Rattle.rl_promises.specs.Tallies.{tallied}
 use Rattle.rl_promises.specs.Tallies.{tallied_among}
 use Rattle.rl_syntax.specs.declared.word.Word.TheVariants as word
-use Rattle.rl_syntax.specs.Syntax.{End, Flag, Listed, Node, Pieces, Said, Syntax, Then, span_of}
+use Rattle.rl_syntax.specs.Syntax.{Flag, Listed, span_of}
 use Rattle.rl_lowered.proofs.BoundSlots.{AreClean}
 use Rattle.rl_lowered.proofs.Clean.{assigned_pattern_clean, constant_head_never}
 use Rattle.rl_lowered.proofs.HeldItems.{assigned_pattern_held, defaulted_whole_held, left_held, member_target_held, part_stored}

@@ -1,17 +1,14 @@
 -- Targets and binding patterns: the refusals of their parts, and what the model says of them.
 use Rattle.std.proofs.Common.{◌≡◌, ℕ, ◌++◌, ◌&&◌, ◌||◌, Bool, true, false, true≢false, not, is_some, if◌then◌else◌, List, [], ◌∷◌, codes}
 use Rattle.std.proofs.Common.{Option, refl, sym, ap, ◌∙◌, subst}
-use Rattle.rl_base.specs.declared.diagnostic.Diagnostic.{Diagnostic}
-use Rattle.rl_base.specs.declared.ids.SymbolId.{SymbolId}
-use Rattle.rl_builder.specs.Builder.{State}
 use Rattle.rl_grammar.specs.Grammar.{fits}
 use Rattle.rl_grammar.specs.declared.kind.Field.TheVariants as field
 use Rattle.rl_grammar.specs.declared.kind.Kind.TheVariants as sort
-use Rattle.rl_hir.specs.Pieces.{Piece, operands, pattern_pieces, texts}
+use Rattle.rl_hir.specs.Pieces.{operands, pattern_pieces, texts}
 use Rattle.rl_hir.specs.declared.instruction.Pattern.{Pattern}
-use Rattle.rl_hir.specs.declared.instruction.Place.{Place}
 use Rattle.rl_lowered.proofs.BoundSlots.{first_round, keyed, second_round}
 use Rattle.rl_lowered.proofs.Clean.{member_head_clean, never}
+use Rattle.rl_lowered.proofs.Common.{At, Diagnostic, End, Names, Node, Piece, Pieces, Place, State, SymbolId, Syntax, Then}
 use Rattle.rl_lowered.proofs.SlotRuns.{taken_apart}
 use Rattle.rl_lowered.proofs.TakenSlots.{taking}
 use Rattle.rl_lowered.specs.Forms.{DefaultName, DefaultTarget, IsDefaulted, IsMember, MemberKey, is_whole_target}
@@ -27,7 +24,6 @@ use Rattle.rl_model.specs.Expressions.{assign_to, eval, place, write_property}
 use Rattle.rl_model.specs.Patterns.{bind}
 use Rattle.rl_model.specs.Scene.{Scene}
 use Rattle.rl_model.specs.Shapes.{have_keys, is_absent, is_plain_rest, piece_shapes, rest_shape}
-use Rattle.rl_names.specs.Names.{Names}
 use Rattle.rl_optional_frames.specs.Meanings.{defaulted}
 use Rattle.rl_promises.proofs.CoveredForms.{none_fits}
 use Rattle.rl_promises.proofs.Covering.{none_in}
@@ -36,10 +32,9 @@ use Rattle.rl_promises.specs.Outs.{is_lost_head}
 use Rattle.rl_promises.specs.Patterns.{are_locals, is_pattern, is_ahead, is_forced, lost_rest}
 use Rattle.rl_promises.specs.Rows.{refusals, refusals_at_head, refusals_in, refusals_in_round, refusals_to, refusals_to_round, said_ahead}
 use Rattle.rl_promises.specs.Rows.{refusal, row_of_head, said_of_rest}
-use Rattle.rl_syntax.specs.declared.numbered.At.{At}
 use Rattle.rl_syntax.specs.declared.word.Word.{Word}
 use Rattle.rl_syntax.specs.declared.word.Word.TheVariants as word
-use Rattle.rl_syntax.specs.Syntax.{Syntax, Node, Listed, Absent, Pieces, End, Then}
+use Rattle.rl_syntax.specs.Syntax.{Listed, Absent}
 
 -- A property, what is left out, and a default.
 

@@ -2,14 +2,12 @@
 use Rattle.std.proofs.Common.{◌≡◌, ℕ, ◌+◌, ◌-◌, ◌||◌, ◌&&◌, Bool, true, false, List, [], ◌∷◌, length, take, Option, Some, None, refl, sym}
 use Rattle.std.proofs.Common.{ap, ◌∙◌, subst}
 use Rattle.std.specs.List.{list_any}
-use Rattle.rl_base.specs.declared.ids.BlockId.{BlockId}
 use Rattle.rl_base.specs.declared.operator.LogicalOperator.{LogicalOperator}
 use Rattle.rl_base.specs.declared.row.Row.TheVariants as row
-use Rattle.rl_base.specs.declared.span.Span.{Span}
 use Rattle.rl_base.specs.declared.variable_kind.VariableKind.{VariableKind}
 use Rattle.rl_base.specs.declared.variable_kind.VariableKind.TheVariants as kinds
 use Rattle.rl_base.specs.Diagnostics.{diagnostic_at}
-use Rattle.rl_builder.specs.Builder.{State, completed_by, innermost, maybe_throw, new_block, plainly_pushed, pushed, pushed_under, recorded}
+use Rattle.rl_builder.specs.Builder.{completed_by, innermost, maybe_throw, new_block, plainly_pushed, pushed, pushed_under, recorded}
 use Rattle.rl_builder.specs.Builder.{reserved, with_temporary}
 use Rattle.rl_builder.specs.declared.blocks.WipBlock.{WipBlock}
 use Rattle.rl_builder.specs.Temporaries.{temporary, unordered, with_value}
@@ -34,9 +32,7 @@ use Rattle.rl_hir.specs.declared.function.BlockKind.TheVariants as block
 use Rattle.rl_hir.specs.declared.instruction.Instruction.{Instruction}
 use Rattle.rl_hir.specs.declared.instruction.InstructionKind.{InstructionKind}
 use Rattle.rl_hir.specs.declared.instruction.InstructionKind.TheVariants as variables
-use Rattle.rl_hir.specs.declared.instruction.InstructionValue.{InstructionValue}
 use Rattle.rl_hir.specs.declared.instruction.InstructionValue.TheVariants as values
-use Rattle.rl_hir.specs.declared.instruction.Place.{Place}
 use Rattle.rl_hir.specs.declared.instruction.PrimitiveValue.TheVariants as primitives
 use Rattle.rl_hir.specs.declared.terminal.Case.{Case}
 use Rattle.rl_hir.specs.declared.terminal.GotoVariant.TheVariants as gotos
@@ -45,6 +41,7 @@ use Rattle.rl_lowered.proofs.Blocks.{all_blocks, all_passes, blocks_assigned, bl
 use Rattle.rl_lowered.proofs.Blocks.{blocks_noted_value, blocks_reloaded, declarators_blocks, expression_blocks, last_blocks}
 use Rattle.rl_lowered.proofs.Blocks.{pattern_blocks, target_blocks}
 use Rattle.rl_lowered.proofs.ChainFrames.{linked_state, opened_handlers}
+use Rattle.rl_lowered.proofs.Common.{BlockId, End, InstructionValue, Names, Pieces, Place, Span, State, Syntax, Then}
 use Rattle.rl_lowered.specs.Forms.{Front, call_of, load_of, store_of, tested_front, typed}
 use Rattle.rl_lowered.specs.Lowered.{Lowered, LoweredDeclarators, LoweredLast, declaring, member_loaded, member_one, member_updated}
 use Rattle.rl_lowered.specs.Lowered.{LoweredFront, LoweredLink, LoweredSpine, name_computed, private_met, value_span}
@@ -53,7 +50,6 @@ use Rattle.rl_lowered.specs.Named.{found}
 use Rattle.rl_machine.specs.Machine.{Code}
 use Rattle.rl_model.specs.Actions.{Label}
 use Rattle.rl_model.specs.Dead.{Lives as DeadLives, Outs, declares, goes_on, lives_in_row}
-use Rattle.rl_names.specs.Names.{Names}
 use Rattle.rl_order.proofs.Ordering.{or_left, or_right, same_self}
 use Rattle.rl_optional_frames.specs.Frames.{link_at, link_objected}
 use Rattle.rl_optional_frames.specs.Parts.{link_opened}
@@ -64,7 +60,7 @@ use Rattle.rl_runs.proofs.Moves.{terminal_met}
 use Rattle.rl_runs.specs.Blocks.{IsLedTo, Leads, Leaves, Passes}
 use Rattle.rl_runs.specs.Facts.{Extends, IsContainedIn}
 use Rattle.rl_runs.specs.Moves.{block_id, branch, goto, last_hole, stored_in, without_scope}
-use Rattle.rl_syntax.specs.Syntax.{End, Listed, Pieces, Syntax, Then, span_of}
+use Rattle.rl_syntax.specs.Syntax.{Listed, span_of}
 
 -- The handler is reached where the part is.
 abbrev pub Throws : (handler : BlockId) → (s t : State) → Type 0

@@ -1,13 +1,9 @@
 -- Promises of the lowering of a part, from its derivation.
 use Rattle.std.proofs.Common.{Bool, List, Option, refl, arith}
-use Rattle.rl_base.specs.declared.ids.BlockId.{BlockId}
-use Rattle.rl_base.specs.declared.span.Span.{Span}
-use Rattle.rl_builder.specs.Builder.{State}
 use Rattle.rl_frames.specs.SwitchParts.{switch_begun}
 use Rattle.rl_hir.specs.declared.instruction.InstructionKind.{InstructionKind}
-use Rattle.rl_hir.specs.declared.instruction.Place.{Place}
 use Rattle.rl_hir.specs.declared.terminal.Case.{Case}
-use Rattle.rl_hir.specs.Pieces.{Piece}
+use Rattle.rl_lowered.proofs.Common.{BlockId, Names, Piece, Pieces, Place, Span, State, Syntax}
 use Rattle.rl_lowered.proofs.Names.{all_names, case_test_names, cases_names, expression_names, front_names, head_names, init_names}
 use Rattle.rl_lowered.proofs.Names.{last_names, link_names, loop_names, names_same, spine_names, statement_names, statements_names}
 use Rattle.rl_lowered.proofs.Names.{bound_names, later_names, moved_names, pattern_names, target_names, test_names}
@@ -24,8 +20,6 @@ use Rattle.rl_lowered.specs.Promised.{LowersAll, LowersCaseTest, LowersCases, Lo
 use Rattle.rl_lowered.specs.Promised.{LowersLast, LowersLink, LowersLoop, LowersProperties, LowersSpine, LowersStatement}
 use Rattle.rl_lowered.specs.Promised.{LowersBound, LowersLater, LowersMoved, LowersPattern, LowersStatements, LowersTarget, LowersTest}
 use Rattle.rl_model.specs.Actions.{Label}
-use Rattle.rl_names.specs.Names.{Names}
-use Rattle.rl_syntax.specs.Syntax.{Pieces, Syntax}
 
 pub told : {names : Names} {e : Syntax} {s t : State} {p : Place} → Lowered names e s t p → LowersExpression names e s t p
 told l = record { by = l; named = (expression_names l).named; size = expression_size l }

@@ -1,11 +1,8 @@
 -- Lowering a part keeps that no run reads the note behind a construct whose terminal `build` may replace.
 use Rattle.std.proofs.Common.{◌+◌, Bool, true, false, List, Option, Some, None, refl, ◌∙◌, arith}
-use Rattle.rl_base.specs.declared.diagnostic.Diagnostic.{Diagnostic}
-use Rattle.rl_base.specs.declared.ids.BlockId.{BlockId}
 use Rattle.rl_base.specs.declared.row.Row.TheVariants as row
-use Rattle.rl_base.specs.declared.span.Span.{Span}
 use Rattle.rl_base.specs.Diagnostics.{diagnostic_at}
-use Rattle.rl_builder.specs.Builder.{State, new_block, pushed, recorded, reserved, with_temporary}
+use Rattle.rl_builder.specs.Builder.{new_block, pushed, recorded, reserved, with_temporary}
 use Rattle.rl_builder.specs.Temporaries.{temporary, with_value}
 use Rattle.rl_frames.proofs.LoopNotes.{do_while_unread, while_unread}
 use Rattle.rl_frames.proofs.RoundNotes.{forin_unread, forof_unread}
@@ -22,18 +19,16 @@ use Rattle.rl_hir.specs.declared.function.BlockKind.TheVariants as blocks
 use Rattle.rl_hir.specs.declared.function.Param.{Param}
 use Rattle.rl_hir.specs.declared.instruction.InstructionKind.{InstructionKind}
 use Rattle.rl_hir.specs.declared.instruction.InstructionKind.TheVariants as variables
-use Rattle.rl_hir.specs.declared.instruction.InstructionValue.{InstructionValue}
 use Rattle.rl_hir.specs.declared.instruction.InstructionValue.TheVariants as values
-use Rattle.rl_hir.specs.declared.instruction.Place.{Place}
 use Rattle.rl_hir.specs.declared.instruction.PrimitiveValue.TheVariants as primitives
 use Rattle.rl_hir.specs.declared.terminal.Case.{Case}
 use Rattle.rl_hir.specs.declared.terminal.GotoVariant.TheVariants as gotos
 use Rattle.rl_hir.specs.declared.terminal.ReturnVariant.TheVariants as returns
 use Rattle.rl_hir.specs.declared.terminal.TerminalKind.TheVariants as kinds
-use Rattle.rl_hir.specs.Pieces.{Piece}
 use Rattle.rl_lowered.proofs.Blocks.{moved_blocks}
 use Rattle.rl_lowered.proofs.Blocks.{all_blocks, blocks_noted_value, expression_blocks, front_blocks, head_blocks, statement_blocks}
 use Rattle.rl_lowered.proofs.Catches.{catch_declared, declares_caught, stores_caught}
+use Rattle.rl_lowered.proofs.Common.{BlockId, Diagnostic, InstructionValue, Names, Piece, Pieces, Place, Span, State, Syntax}
 use Rattle.rl_lowered.proofs.ItemBlocks.{ahead_stays, bound_stays, stays_met, taken_stays}
 use Rattle.rl_lowered.proofs.UnreadMoves.{unreads_defaulted, unreads_stays}
 use Rattle.rl_lowered.proofs.UnreadMoves.{Unreads, own_note, unreads_assigned, unreads_constant, unreads_declaring, unreads_ended}
@@ -53,14 +48,13 @@ use Rattle.rl_lowered.specs.Lowered.{LoweredBound, LoweredLater, LoweredMoved, L
 use Rattle.rl_lowered.specs.Lowered as lowered
 use Rattle.rl_lowered.specs.Named.{found}
 use Rattle.rl_model.specs.Actions.{Label}
-use Rattle.rl_names.specs.Names.{Names}
 use Rattle.rl_optional_frames.specs.Frames.{default_at, default_ended, link_at, link_objected}
 use Rattle.rl_promises.specs.Moved.{type_name}
 use Rattle.rl_promises.specs.Rows.{refusal, row_of_head}
 use Rattle.rl_runs.proofs.Moves.{extends_then, extends_value}
 use Rattle.rl_runs.specs.Moves.{branch, ends_by, last_hole, return_of, returned_from, stored_in, threw_from, without_scope}
 use Rattle.rl_runs.specs.ReadNotes.{KeepsUnread}
-use Rattle.rl_syntax.specs.Syntax.{Pieces, Syntax, span_of}
+use Rattle.rl_syntax.specs.Syntax.{span_of}
 
 mutual
   pub expression_unread : {names : Names} {e : Syntax} {s t : State} {p : Place} → Lowered names e s t p → Unreads s t

@@ -2,19 +2,15 @@
 use Rattle.std.proofs.Common.{◌≡◌, ℕ, ◌+◌, Bool, ◌<◌, ◌≤◌, inl, inr, List, [], ◌∷◌, Option, Some, None, refl, ◌∙◌, subst, arith, ap, length}
 use Rattle.std.proofs.Common.{take}
 use Rattle.std.specs.Prelude.{◌++◌, ◌-◌, ◌⊎◌}
-use Rattle.rl_base.specs.declared.diagnostic.Diagnostic.{Diagnostic}
-use Rattle.rl_base.specs.declared.ids.BlockId.{BlockId}
-use Rattle.rl_base.specs.declared.ids.SymbolId.{SymbolId}
 use Rattle.rl_base.specs.declared.operator.BinaryOperator.{BinaryOperator}
 use Rattle.rl_base.specs.declared.operator.UpdateOperator.{UpdateOperator}
 use Rattle.rl_base.specs.declared.row.Row.TheVariants as row
-use Rattle.rl_base.specs.declared.span.Span.{Span}
 use Rattle.rl_base.specs.declared.type_kind.TypeKind.{TypeKind}
 use Rattle.rl_base.specs.declared.type_kind.TypeKind.TheVariants as types
 use Rattle.rl_base.specs.declared.variable_kind.VariableKind.{VariableKind}
 use Rattle.rl_base.specs.declared.variable_kind.VariableKind.TheVariants as declared
 use Rattle.rl_base.specs.Diagnostics.{diagnostic_at}
-use Rattle.rl_builder.specs.Builder.{State, completed_by, innermost, new_block, pushed, recorded, reserved, with_temporary, with_type}
+use Rattle.rl_builder.specs.Builder.{completed_by, innermost, new_block, pushed, recorded, reserved, with_temporary, with_type}
 use Rattle.rl_builder.specs.declared.blocks.WipBlock.{WipBlock}
 use Rattle.rl_builder.specs.Temporaries.{temporary, unordered, with_value}
 use Rattle.rl_frames.specs.Frames.{ForParts, for_opened}
@@ -24,22 +20,20 @@ use Rattle.rl_hir.specs.declared.function.BlockKind.{BlockKind}
 use Rattle.rl_hir.specs.declared.function.BlockKind.TheVariants as blocks
 use Rattle.rl_hir.specs.declared.instruction.Instruction.{Instruction}
 use Rattle.rl_hir.specs.declared.instruction.InstructionKind.TheVariants as variables
-use Rattle.rl_hir.specs.declared.instruction.InstructionValue.{InstructionValue}
 use Rattle.rl_hir.specs.declared.instruction.InstructionValue.TheVariants as values
-use Rattle.rl_hir.specs.declared.instruction.Place.{Place}
 use Rattle.rl_hir.specs.declared.instruction.PrimitiveValue.TheVariants as primitives
 use Rattle.rl_hir.specs.declared.terminal.GotoVariant.{GotoVariant}
 use Rattle.rl_hir.specs.declared.terminal.GotoVariant.TheVariants as gotos
 use Rattle.rl_hir.specs.declared.terminal.Terminal.{Terminal}
 use Rattle.rl_hir.specs.declared.terminal.TerminalKind.{TerminalKind}
 use Rattle.rl_lowered.proofs.ChainFrames.{linked_state}
+use Rattle.rl_lowered.proofs.Common.{BlockId, Diagnostic, InstructionValue, Names, Place, Span, State, SymbolId}
 use Rattle.rl_lowered.proofs.ItemBlocks.{Stays}
 use Rattle.rl_lowered.specs.Forms.{MemberKey, load_of, store_of, typed}
 use Rattle.rl_lowered.specs.Items.{variable_at}
 use Rattle.rl_lowered.specs.Lowered.{assigned_to, declaring, member_assigned, member_computed, member_loaded, member_one, member_stored}
 use Rattle.rl_lowered.specs.Lowered.{member_updated, name_computed, name_reloaded, name_stored, throwing, throwing_under}
 use Rattle.rl_lowered.specs.Named.{found}
-use Rattle.rl_names.specs.Names.{Names}
 use Rattle.rl_optional_frames.proofs.LinkStarts.{early_extends}
 use Rattle.rl_optional_frames.proofs.DefaultBlocks.{default_blocks}
 use Rattle.rl_optional_frames.proofs.Notes.{default_unread, early_unread, link_unread}

@@ -1,19 +1,16 @@
 -- Instructions that ask events, under handlers.
 use Rattle.std.proofs.Common.{◌≡◌, ℕ, ◌+◌, ◌<◌, ◌≤◌, List, length, Option, refl, sym, ap, ◌∙◌, subst}
-use Rattle.rl_base.specs.declared.span.Span.{Span}
-use Rattle.rl_builder.specs.Builder.{State, innermost, with_temporary}
+use Rattle.rl_builder.specs.Builder.{innermost, with_temporary}
 use Rattle.rl_builder.specs.Temporaries.{temporary, unordered, with_value}
-use Rattle.rl_hir.specs.declared.instruction.Instruction.{Instruction}
 use Rattle.rl_hir.specs.declared.instruction.InstructionValue.{InstructionValue}
 use Rattle.rl_machine.specs.Acts.{Asks, Landing, act, gives, keeps, landed}
-use Rattle.rl_machine.specs.declared.trace.Answer.{Answer}
 use Rattle.rl_machine.specs.declared.trace.Event.{Event}
 use Rattle.rl_machine.specs.declared.trace.Trace.{Trace}
-use Rattle.rl_machine.specs.declared.trace.Value.{Value}
 use Rattle.rl_machine.specs.Ends.{Notes}
-use Rattle.rl_machine.specs.Machine.{Code, Runs, caught, changer, executed}
+use Rattle.rl_machine.specs.Machine.{Runs, caught, changer, executed}
 use Rattle.rl_machine.specs.Silence.{walk}
-use Rattle.rl_machine.specs.Traces.{AnswerCont, Store, ValueCont, World, fired, set, set_open}
+use Rattle.rl_machine.specs.Traces.{AnswerCont, ValueCont, fired, set, set_open}
+use Rattle.rl_runs.proofs.Common.{Answer, Code, Instruction, Span, State, Store, Value, World}
 use Rattle.rl_runs.proofs.Events.{fired_comes}
 use Rattle.rl_runs.proofs.Moves.{catches, goes_behind, instruction_met, thrown_comes, value_free}
 use Rattle.rl_runs.proofs.Steps.{inside_refl, set_same, since_set, since_then, steps_on}

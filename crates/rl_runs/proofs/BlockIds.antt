@@ -3,15 +3,14 @@ use Rattle.std.proofs.Common.{◌≡◌, ℕ, zero, suc, ◌+◌, ◌<◌, ◌�
 use Rattle.std.proofs.Common.{refl, sym, ap, ◌∙◌, subst, arith}
 use Rattle.std.proofs.lemmas.List.{map-append}
 use Rattle.rl_base.proofs.DistinctLists.{IsIn, distinct_push}
-use Rattle.rl_base.specs.declared.ids.BlockId.{BlockId}
 use Rattle.rl_base.specs.Distinct.{AreDistinct}
-use Rattle.rl_builder.specs.Builder.{State, reserved, new_block, ended_by, completed_by, innermost, maybe_throw, plainly_pushed, pushed}
+use Rattle.rl_builder.specs.Builder.{reserved, new_block, ended_by, completed_by, innermost, maybe_throw, plainly_pushed, pushed}
 use Rattle.rl_builder.specs.Builder.{pushed_under}
 use Rattle.rl_builder.specs.declared.blocks.WipBlock.{WipBlock}
 use Rattle.rl_hir.specs.Blocks.{Pair as BlockPair}
 use Rattle.rl_hir.specs.declared.function.BlockKind.{BlockKind}
-use Rattle.rl_hir.specs.declared.instruction.Instruction.{Instruction}
 use Rattle.rl_hir.specs.declared.terminal.Terminal.{Terminal}
+use Rattle.rl_runs.proofs.Common.{BlockId, Instruction, State}
 use Rattle.rl_runs.proofs.Steps.{added_cases}
 use Rattle.rl_runs.specs.Blocks.{IsOwn, PreservesIds, PreservesUniqueIds, UniqueIds}
 use Rattle.rl_runs.specs.Facts.{IsCompleted}

@@ -1,14 +1,13 @@
 -- Tests, events and steps of loops: source and graph ask alike, and both go on from later points with fewer answers.
 use Rattle.std.proofs.Common.{List, [], ◌∷◌, refl, ap, arith}
-use Rattle.rl_machine.specs.declared.trace.Answer.{Answer}
 use Rattle.rl_machine.specs.declared.trace.AnswerKind.{AnswerKind}
 use Rattle.rl_machine.specs.declared.trace.AnswerKind.TheVariants.{Yes, No, Throw}
 use Rattle.rl_machine.specs.declared.trace.Event.{Event}
 use Rattle.rl_machine.specs.declared.trace.Trace.{Trace}
-use Rattle.rl_machine.specs.declared.trace.Value.{Value}
 use Rattle.rl_machine.specs.Ends.{Notes}
-use Rattle.rl_machine.specs.Machine.{Code, Next, changer}
-use Rattle.rl_machine.specs.Traces.{AnswerCont, Cont, Store, ValueCont, World, by_kind, emit, fired, set_open, stepped, tested}
+use Rattle.rl_machine.specs.Machine.{Next, changer}
+use Rattle.rl_machine.specs.Traces.{AnswerCont, Cont, ValueCont, by_kind, emit, fired, set_open, stepped, tested}
+use Rattle.rl_runs.proofs.Common.{Answer, Code, Store, Value, World}
 use Rattle.rl_runs.proofs.Shared.{since_answer}
 use Rattle.rl_runs.proofs.Steps.{comes_at_once}
 use Rattle.rl_runs.specs.Continuations.{Agrees, Eventually, IsBehind, SharesVariables}

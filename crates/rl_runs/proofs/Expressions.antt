@@ -2,8 +2,7 @@
 -- instruction.
 use Rattle.std.proofs.Common.{◌≡◌, ℕ, ◌<◌, ◌≤◌, inl, List, [], ◌∷◌, length, map, Option, Some, refl, sym, ap, ◌∙◌, subst, arith}
 use Rattle.std.proofs.lemmas.List.Elements.{All-cons, All-nil}
-use Rattle.rl_base.specs.declared.span.Span.{Span}
-use Rattle.rl_builder.specs.Builder.{State, innermost}
+use Rattle.rl_builder.specs.Builder.{innermost}
 use Rattle.rl_builder.specs.Temporaries.{with_value}
 use Rattle.rl_hir.specs.declared.instruction.InstructionKind.{InstructionKind}
 use Rattle.rl_hir.specs.declared.instruction.InstructionValue.{InstructionValue}
@@ -12,13 +11,11 @@ use Rattle.rl_hir.specs.declared.instruction.Place.{Place}
 use Rattle.rl_hir.specs.declared.instruction.PrimitiveValue.{PrimitiveValue}
 use Rattle.rl_hir.specs.Pairs.{identifier_of}
 use Rattle.rl_machine.specs.Acts.{Asks, Computes, act, gives, keeps, value_of}
-use Rattle.rl_machine.specs.declared.trace.Answer.{Answer}
 use Rattle.rl_machine.specs.declared.trace.Event.{Event}
-use Rattle.rl_machine.specs.declared.trace.Value.{Value}
-use Rattle.rl_machine.specs.Machine.{Code}
-use Rattle.rl_machine.specs.Traces.{Store, ValueCont, World, fired, set, set_open}
+use Rattle.rl_machine.specs.Traces.{ValueCont, fired, set, set_open}
 use Rattle.rl_model.specs.Actions.{Action, Ways, variable}
 use Rattle.rl_runs.proofs.Asking.{asks_runs, keeps_runs}
+use Rattle.rl_runs.proofs.Common.{Answer, Code, Span, State, Store, Value, World}
 use Rattle.rl_runs.proofs.Holes.{computes_on, same_throws, use_all, use_expression}
 use Rattle.rl_runs.proofs.Moves.{contained_before, extends_refl, extends_value, inside, value_free, value_made}
 use Rattle.rl_runs.proofs.Shared.{since_store}

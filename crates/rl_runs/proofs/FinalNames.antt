@@ -4,15 +4,14 @@ use Rattle.std.proofs.Common.{map, slice_get, Option, Some, None, refl, sym, ap,
 use Rattle.std.proofs.lemmas.List.{map-append}
 use Rattle.std.proofs.lemmas.Option.{cond_some, none-some, same_Some}
 use Rattle.rl_base.proofs.DistinctLists.{IsIn, distinct_push}
-use Rattle.rl_base.specs.declared.span.Span.{Span}
 use Rattle.rl_base.specs.Distinct.{AreDistinct}
 use Rattle.rl_builder.proofs.NameLaws.{name_of-injective}
-use Rattle.rl_builder.specs.Builder.{State}
 use Rattle.rl_builder.specs.Names.{NamesAgree, resolved, resolved_by}
 use Rattle.rl_hir.specs.declared.function.Identifier.{Identifier}
 use Rattle.rl_hir.specs.declared.function.IdentifierName.TheVariants as names
 use Rattle.rl_hir.specs.declared.function.Pair.{Pair}
 use Rattle.rl_hir.specs.Pairs.{identifier_of, pair}
+use Rattle.rl_runs.proofs.Common.{Span, State}
 use Rattle.rl_runs.specs.Facts.{AreSoundNames, CoversNames, GrowsNames, HasSoundNames, Nobody}
 use Rattle.rl_used_names.proofs.NameLaws.{AreNamed-append, identifier_of-append_none, identifier_of-append_some, name_of-within}
 use Rattle.rl_used_names.specs.UsedName.{UsedName}

@@ -5,26 +5,23 @@ use Rattle.std.specs.Option.{option_map}
 use Rattle.std.proofs.lemmas.Bool.Decides.{eqb_tells}
 use Rattle.std.proofs.lemmas.Option.{slice_get_within}
 use Rattle.std.specs.List.{list_all, list_any}
-use Rattle.rl_base.specs.declared.ids.BlockId.{BlockId}
 use Rattle.rl_base.specs.declared.ids.InstructionId.{InstructionId}
-use Rattle.rl_builder.specs.Builder.{State}
 use Rattle.rl_builder.specs.declared.jumps.JumpScope.{JumpScope}
 use Rattle.rl_hir.specs.Blocks.{Pair as BlockPair, same_id}
 use Rattle.rl_hir.specs.declared.function.BasicBlock.{BasicBlock}
-use Rattle.rl_hir.specs.declared.instruction.Instruction.{Instruction}
 use Rattle.rl_hir.specs.declared.terminal.Terminal.{Terminal}
 use Rattle.rl_hir.specs.declared.terminal.TerminalKind.{TerminalKind}
 use Rattle.rl_hir.specs.Terminals.{successor_ids}
 use Rattle.rl_machine.proofs.Silence.{settles_nothing}
 use Rattle.rl_machine.specs.Conditions.{EndsAs, Reached, loop_blocks}
 use Rattle.rl_machine.specs.Ends.{leaving}
-use Rattle.rl_machine.specs.Machine.{Code, Graph, Item, Runs, Ends, block_of, catcher_at, code_in, item_at, item_by, item_in}
+use Rattle.rl_machine.specs.Machine.{Graph, Item, Runs, Ends, block_of, catcher_at, code_in, item_at, item_by, item_in}
 use Rattle.rl_machine.specs.Prunes.{Each}
 use Rattle.rl_machine.specs.Silence.{AlwaysSettles, IsNotedStraight, LeavesStraight, Settles}
-use Rattle.rl_machine.specs.Traces.{World}
 use Rattle.rl_order.proofs.Ordering.{or_left, or_right, same_self}
 use Rattle.rl_order.specs.Reached.{IsReached, Begins, Goes}
 use Rattle.rl_order.specs.Walk.{IsWhole, has_block, leads_to}
+use Rattle.rl_runs.proofs.Common.{BlockId, Code, Instruction, State, World}
 use Rattle.rl_runs.proofs.Graphs.{Apart, FoundAt, found_at, found_by, item_met}
 use Rattle.rl_runs.proofs.Successors.{leads_named}
 use Rattle.rl_runs.specs.Blocks.{AreLooped, ByBreak, ByContinue, ByHandler, HasPoint, IsLedTo, IsOneOf, IsStraight, IsTarget}

@@ -5,15 +5,14 @@ use Rattle.std.specs.Option.{option_map}
 use Rattle.std.proofs.lemmas.Bool.Decides.{eqb_tells}
 use Rattle.std.proofs.lemmas.Option.{slice_get-map, slice_get_past}
 use Rattle.rl_base.proofs.DistinctLists.{distinct_head, distinct_tail}
-use Rattle.rl_base.specs.declared.ids.BlockId.{BlockId}
 use Rattle.rl_base.specs.declared.ids.InstructionId.{InstructionId}
 use Rattle.rl_base.specs.Distinct.{AreDistinct}
 use Rattle.rl_hir.specs.Blocks.{Pair as BlockPair, block_at}
 use Rattle.rl_hir.specs.declared.function.BasicBlock.{BasicBlock}
-use Rattle.rl_hir.specs.declared.instruction.Instruction.{Instruction}
 use Rattle.rl_machine.specs.Machine.{Item, Runs, Ends, item_by, item_in}
 use Rattle.rl_order.specs.Numbering.{ordered_at, ordered_list, order_after, ordered_table}
 use Rattle.rl_runs.proofs.BlockIds.{ids_of}
+use Rattle.rl_runs.proofs.Common.{BlockId, Instruction}
 use Rattle.rl_runs.specs.Facts.{At, InBlock}
 
 -- The numbers of blocks are distinct.

@@ -4,18 +4,15 @@ use Rattle.std.proofs.Common.{ap, ◌∙◌, subst, arith}
 use Rattle.std.proofs.lemmas.List.{map-append}
 use Rattle.std.proofs.lemmas.List.Elements.{All-append, All-cons, All-head, All-nil, All-tail, All-weaker}
 use Rattle.std.proofs.lemmas.Option.{none-some, same_Some}
-use Rattle.rl_base.specs.declared.span.Span.{Span}
-use Rattle.rl_builder.specs.Builder.{State, innermost}
+use Rattle.rl_builder.specs.Builder.{innermost}
 use Rattle.rl_builder.specs.Temporaries.{with_value}
 use Rattle.rl_hir.specs.declared.instruction.InstructionValue.{InstructionValue}
 use Rattle.rl_machine.specs.Acts.{Asks, Computes, act, gives, keeps}
-use Rattle.rl_machine.specs.declared.trace.Answer.{Answer}
 use Rattle.rl_machine.specs.declared.trace.Event.{Event}
-use Rattle.rl_machine.specs.declared.trace.Value.{Value}
 use Rattle.rl_machine.specs.Ends.{Notes}
-use Rattle.rl_machine.specs.Machine.{Code}
-use Rattle.rl_machine.specs.Traces.{Store, World, fired, set_open}
+use Rattle.rl_machine.specs.Traces.{fired, set_open}
 use Rattle.rl_model.specs.Actions.{Action}
+use Rattle.rl_runs.proofs.Common.{Answer, Code, Span, State, Store, Value, World}
 use Rattle.rl_runs.proofs.Expressions.{over_asked, over_given, over_kept}
 use Rattle.rl_runs.proofs.Holes.{same_throws, use_all}
 use Rattle.rl_runs.proofs.Moves.{contained_before, extends_refl, extends_value, inside}

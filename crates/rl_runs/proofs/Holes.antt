@@ -2,25 +2,21 @@
 use Rattle.std.proofs.Common.{◌≡◌, ℕ, ◌-◌, ◌++◌, List, [], ◌∷◌, length, length-append, map, take, slice_get, Option, Some, None}
 use Rattle.std.proofs.Common.{inl, inr, refl, sym, ap, ◌∙◌, subst, arith}
 use Rattle.std.proofs.Math.Seq.{take-append_seam}
-use Rattle.rl_base.specs.declared.ids.BlockId.{BlockId}
 use Rattle.rl_base.specs.declared.ids.InstructionId.{InstructionId}
-use Rattle.rl_base.specs.declared.span.Span.{Span}
-use Rattle.rl_builder.specs.Builder.{State, completed_by, innermost, with_temporary}
+use Rattle.rl_builder.specs.Builder.{completed_by, innermost, with_temporary}
 use Rattle.rl_builder.specs.declared.blocks.WipBlock.{WipBlock}
 use Rattle.rl_builder.specs.declared.jumps.JumpScope.{JumpScope}
 use Rattle.rl_builder.specs.Temporaries.{temporary, unordered, with_value}
-use Rattle.rl_hir.specs.declared.instruction.Instruction.{Instruction}
 use Rattle.rl_hir.specs.declared.instruction.InstructionValue.{InstructionValue}
 use Rattle.rl_hir.specs.declared.terminal.GotoVariant.{GotoVariant}
 use Rattle.rl_hir.specs.declared.terminal.Terminal.{Terminal}
 use Rattle.rl_machine.specs.Acts.{Computes, act, set_each}
-use Rattle.rl_machine.specs.declared.trace.Answer.{Answer}
 use Rattle.rl_machine.specs.declared.trace.Trace.{Trace}
-use Rattle.rl_machine.specs.declared.trace.Value.{Value}
 use Rattle.rl_machine.specs.Ends.{Notes}
-use Rattle.rl_machine.specs.Machine.{Code, Ends, Runs, executed}
-use Rattle.rl_machine.specs.Traces.{Cont, Store, ValueCont, ValuesCont, World}
+use Rattle.rl_machine.specs.Machine.{Ends, Runs, executed}
+use Rattle.rl_machine.specs.Traces.{Cont, ValueCont, ValuesCont}
 use Rattle.rl_model.specs.Actions.{Action, Label, Ways}
+use Rattle.rl_runs.proofs.Common.{Answer, BlockId, Code, Instruction, Span, State, Store, Value, World}
 use Rattle.rl_runs.proofs.Moves.{contained_before, extends_completed, goes_on, push_runs}
 use Rattle.rl_runs.proofs.Steps.{get_more, get_seam, jumps_then, since_then, throws_then}
 use Rattle.rl_runs.specs.Continuations.{Inside, Jumps, Range, SharesVariables, Since, Throws, TracesAt, TracesFrom, between}

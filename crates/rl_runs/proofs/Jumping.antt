@@ -1,16 +1,14 @@
 -- Jumps under one more scope: that of a loop, of a labelled statement and of a `switch`.
 use Rattle.std.proofs.Common.{◌≡◌, ℕ, ◌++◌, Bool, true, false, if◌then◌else◌, List, [], ◌∷◌, Some, None, Ok, refl, sym, ap, ◌∙◌, subst}
 use Rattle.std.proofs.lemmas.List.{reverse-append}
-use Rattle.rl_base.specs.declared.ids.BlockId.{BlockId}
 use Rattle.rl_builder.specs.declared.jumps.JumpScope.{JumpScope}
 use Rattle.rl_builder.specs.declared.jumps.JumpScope.TheVariants as scopes
 use Rattle.rl_builder.specs.Jumps.{break_block_of, break_target, continue_block_of, continue_target, lookup_break, lookup_continue}
 use Rattle.rl_builder.specs.Jumps.{takes_break, takes_continue}
-use Rattle.rl_machine.specs.declared.trace.Answer.{Answer}
 use Rattle.rl_machine.specs.Ends.{Notes}
-use Rattle.rl_machine.specs.Machine.{Code}
-use Rattle.rl_machine.specs.Traces.{Cont, Store}
+use Rattle.rl_machine.specs.Traces.{Cont}
 use Rattle.rl_model.specs.Actions.{Label, Ways, is_label, is_own}
+use Rattle.rl_runs.proofs.Common.{Answer, BlockId, Code, Store}
 use Rattle.rl_runs.specs.Continuations.{Follows, Jumps, Range}
 use Rattle.rl_runs.specs.Exits.{is_named, label_ways, loop_ways, switch_ways}
 

@@ -1,7 +1,6 @@
 -- The runs of parts that no jump leaves: declarations, and expressions whose values are dropped.
 use Rattle.std.proofs.Common.{◌≡◌, ℕ, List, [], ◌∷◌, length, Option, Some, sym, ◌∙◌, subst}
-use Rattle.rl_base.specs.declared.span.Span.{Span}
-use Rattle.rl_builder.specs.Builder.{State, innermost}
+use Rattle.rl_builder.specs.Builder.{innermost}
 use Rattle.rl_builder.specs.Names.{NamesAgree, resolved}
 use Rattle.rl_builder.specs.Temporaries.{with_value}
 use Rattle.rl_hir.specs.declared.instruction.InstructionKind.{InstructionKind}
@@ -10,13 +9,11 @@ use Rattle.rl_hir.specs.declared.instruction.InstructionValue.TheVariants as val
 use Rattle.rl_hir.specs.declared.instruction.Place.{Place}
 use Rattle.rl_hir.specs.Pairs.{identifier_of}
 use Rattle.rl_machine.specs.Acts.{Computes, declared}
-use Rattle.rl_machine.specs.declared.trace.Answer.{Answer}
-use Rattle.rl_machine.specs.declared.trace.Value.{Value}
 use Rattle.rl_machine.specs.declared.trace.Value.TheVariants as value
 use Rattle.rl_machine.specs.Ends.{Notes}
-use Rattle.rl_machine.specs.Machine.{Code}
-use Rattle.rl_machine.specs.Traces.{Cont, Store, World, set}
+use Rattle.rl_machine.specs.Traces.{Cont, set}
 use Rattle.rl_model.specs.Actions.{Action, Ways, done}
+use Rattle.rl_runs.proofs.Common.{Answer, Code, Span, State, Store, Value, World}
 use Rattle.rl_runs.proofs.Expressions.{stored_runs}
 use Rattle.rl_runs.proofs.Holes.{computes_on, same_throws}
 use Rattle.rl_runs.proofs.Moves.{contained_before, extends_refl, extends_resolved, extends_then, extends_value, inside}

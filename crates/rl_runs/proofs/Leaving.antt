@@ -5,9 +5,7 @@ use Rattle.std.proofs.lemmas.List.Elements.{All-append, All-cons, All-head, All-
 use Rattle.std.proofs.lemmas.Bool.{not-true}
 use Rattle.std.specs.List.{list_any}
 use Rattle.std.specs.Str.{bytes_eq}
-use Rattle.rl_base.specs.declared.ids.BlockId.{BlockId}
-use Rattle.rl_base.specs.declared.span.Span.{Span}
-use Rattle.rl_builder.specs.Builder.{State, new_block, reserved}
+use Rattle.rl_builder.specs.Builder.{new_block, reserved}
 use Rattle.rl_builder.specs.declared.jumps.JumpError.{JumpError}
 use Rattle.rl_builder.specs.declared.jumps.JumpScope.{JumpScope}
 use Rattle.rl_builder.specs.declared.jumps.JumpScope.TheVariants as scopes
@@ -16,10 +14,10 @@ use Rattle.rl_hir.specs.Blocks.{same_id}
 use Rattle.rl_hir.specs.declared.function.BlockKind.{BlockKind}
 use Rattle.rl_hir.specs.declared.terminal.GotoVariant.{GotoVariant}
 use Rattle.rl_hir.specs.declared.terminal.GotoVariant.TheVariants as gotos
-use Rattle.rl_machine.specs.Machine.{Code}
 use Rattle.rl_model.specs.Actions.{Label, is_own}
 use Rattle.rl_model.specs.Dead.{Outs, either, goes_on, in_row, is_broken, is_labeled, is_unlabeled, labeled_outs, leaving, loop_outs}
 use Rattle.rl_order.proofs.Ordering.{or_left, same_self}
+use Rattle.rl_runs.proofs.Common.{BlockId, Code, Span, State}
 use Rattle.rl_runs.proofs.Jumping.{break_is, continue_is}
 use Rattle.rl_runs.proofs.Moves.{contained_before, terminal_met}
 use Rattle.rl_runs.specs.Blocks.{IsLedTo, Leads, Leaves, Passes}

@@ -1,5 +1,6 @@
 pub mod Asking
 pub mod BlockIds
+pub mod Common
 pub mod Events
 pub mod Expressions
 pub mod FinalNames

@@ -1,18 +1,15 @@
 -- Links of optional chains, and values that several ways compute.
 use Rattle.std.proofs.Common.{◌≡◌, ℕ, ◌<◌, ◌≤◌, List, [], ◌∷◌, length, Some, refl, ap, ◌∙◌, arith}
 use Rattle.std.proofs.lemmas.List.Elements.{All-cons, All-nil}
-use Rattle.rl_base.specs.declared.span.Span.{Span}
-use Rattle.rl_builder.specs.Builder.{State, innermost}
+use Rattle.rl_builder.specs.Builder.{innermost}
 use Rattle.rl_hir.specs.declared.instruction.InstructionKind.TheVariants as variables
 use Rattle.rl_hir.specs.declared.instruction.InstructionValue.TheVariants as values
 use Rattle.rl_hir.specs.declared.instruction.Place.{Place}
-use Rattle.rl_machine.specs.declared.trace.Answer.{Answer}
 use Rattle.rl_machine.specs.declared.trace.Trace.{Trace}
-use Rattle.rl_machine.specs.declared.trace.Value.{Value}
 use Rattle.rl_machine.specs.Ends.{Notes}
-use Rattle.rl_machine.specs.Machine.{Code}
-use Rattle.rl_machine.specs.Traces.{Store, ValueCont, World, set}
+use Rattle.rl_machine.specs.Traces.{ValueCont, set}
 use Rattle.rl_model.specs.Actions.{Action, Ways}
+use Rattle.rl_runs.proofs.Common.{Answer, Code, Span, State, Store, Value, World}
 use Rattle.rl_runs.proofs.Holes.{computes_on}
 use Rattle.rl_runs.proofs.Moves.{value_free}
 use Rattle.rl_runs.proofs.Steps.{follows_then, set_other, set_same, since_set, since_then, throws_then}

@@ -1,8 +1,8 @@
 -- Instructions of live nodes stand in blocks that are reached.
 use Rattle.std.proofs.Common.{◌≡◌, ◌++◌, Bool, true, false, List, [], ◌∷◌, length, Option, Some}
 use Rattle.std.proofs.lemmas.List.Elements.{All-append, All-cons, All-nil}
-use Rattle.rl_builder.specs.Builder.{State, pushed}
-use Rattle.rl_hir.specs.declared.instruction.Instruction.{Instruction}
+use Rattle.rl_builder.specs.Builder.{pushed}
+use Rattle.rl_runs.proofs.Common.{Instruction, State}
 use Rattle.rl_runs.proofs.Moves.{contained_before, instruction_met}
 use Rattle.rl_runs.proofs.Passing.{passes_pushed}
 use Rattle.rl_runs.specs.Blocks.{Lives, Passes, Stands}

@@ -3,26 +3,22 @@ use Rattle.std.proofs.Common.{◌≡◌, ℕ, ◌+◌, ◌<◌, inl, inr, ◌++�
 use Rattle.std.proofs.Common.{◌∙◌, subst, arith}
 use Rattle.std.specs.Option.{option_map}
 use Rattle.rl_base.specs.declared.diagnostic.Diagnostic.{Diagnostic}
-use Rattle.rl_base.specs.declared.ids.BlockId.{BlockId}
 use Rattle.rl_base.specs.declared.ids.InstructionId.{InstructionId}
-use Rattle.rl_base.specs.declared.span.Span.{Span}
 use Rattle.rl_builder.proofs.NameLaws.{OneMore-resolved}
-use Rattle.rl_builder.specs.Builder.{State, completed_by, ended_by, ended_by_throw, innermost, maybe_throw, new_block, plainly_pushed}
+use Rattle.rl_builder.specs.Builder.{completed_by, ended_by, ended_by_throw, innermost, maybe_throw, new_block, plainly_pushed}
 use Rattle.rl_builder.specs.Builder.{pushed, pushed_under, recorded, reserved, with_temporary}
 use Rattle.rl_builder.specs.declared.blocks.WipBlock.{WipBlock}
 use Rattle.rl_builder.specs.Names.{NamesAgree, resolved}
 use Rattle.rl_builder.specs.Temporaries.{temporary, unordered, with_value}
 use Rattle.rl_hir.specs.Blocks.{Pair as BlockPair}
-use Rattle.rl_hir.specs.declared.instruction.Instruction.{Instruction}
 use Rattle.rl_hir.specs.declared.instruction.InstructionValue.{InstructionValue}
 use Rattle.rl_hir.specs.declared.terminal.Terminal.{Terminal}
-use Rattle.rl_machine.specs.declared.trace.Answer.{Answer}
 use Rattle.rl_machine.specs.declared.trace.Trace.{Trace}
-use Rattle.rl_machine.specs.declared.trace.Value.{Value}
 use Rattle.rl_machine.specs.Ends.{Goes, Note, Notes, all_noted, catcher_of, leaving}
-use Rattle.rl_machine.specs.Machine.{Code, Ends, Next, Runs, caught, caught_at, left, step}
+use Rattle.rl_machine.specs.Machine.{Ends, Next, Runs, caught, caught_at, left, step}
 use Rattle.rl_machine.specs.Silence.{walk}
-use Rattle.rl_machine.specs.Traces.{Store, ValueCont}
+use Rattle.rl_machine.specs.Traces.{ValueCont}
+use Rattle.rl_runs.proofs.Common.{Answer, BlockId, Code, Instruction, Span, State, Store, Value}
 use Rattle.rl_runs.proofs.FinalNames.{covers_before, names_refl, names_resolved, names_then, nobody_fresh, sound_more, sound_resolved}
 use Rattle.rl_runs.proofs.Steps.{comes_at_once, get_more, get_seam, steps_on}
 use Rattle.rl_runs.specs.Continuations.{Eventually, Inside, Range, Since, Throws, TracesAt, TracesFrom, between}

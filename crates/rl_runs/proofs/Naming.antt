@@ -5,19 +5,17 @@ use Rattle.std.proofs.Common.{arith}
 use Rattle.std.proofs.lemmas.List.{get_or-reverse, length-reverse}
 use Rattle.std.proofs.lemmas.Option.{get_or_from_slice_get, slice_get-get_or, slice_get_within}
 use Rattle.std.specs.List.{list_any}
-use Rattle.rl_base.specs.declared.ids.BlockId.{BlockId}
-use Rattle.rl_base.specs.declared.span.Span.{Span}
-use Rattle.rl_builder.specs.Builder.{State, completed_by, ended_by, innermost, maybe_throw, new_block, plainly_pushed, pushed}
+use Rattle.rl_builder.specs.Builder.{completed_by, ended_by, innermost, maybe_throw, new_block, plainly_pushed, pushed}
 use Rattle.rl_builder.specs.Builder.{pushed_under, reserved}
 use Rattle.rl_builder.specs.declared.blocks.WipBlock.{WipBlock}
 use Rattle.rl_builder.specs.declared.jumps.JumpScope.{JumpScope}
 use Rattle.rl_builder.specs.Jumps.{break_block_of, break_target, continue_block_of, continue_target, lookup_break, lookup_continue}
 use Rattle.rl_builder.specs.Jumps.{takes_break, takes_continue}
 use Rattle.rl_hir.specs.Blocks.{Pair as BlockPair, same_id}
-use Rattle.rl_hir.specs.declared.instruction.Instruction.{Instruction}
 use Rattle.rl_hir.specs.declared.terminal.GotoVariant.{GotoVariant}
 use Rattle.rl_hir.specs.declared.terminal.Terminal.{Terminal}
 use Rattle.rl_model.specs.Actions.{Label}
+use Rattle.rl_runs.proofs.Common.{BlockId, Instruction, Span, State}
 use Rattle.rl_runs.proofs.Steps.{added_cases}
 use Rattle.rl_runs.specs.Blocks.{ByBreak, ByContinue, ByHandler, IsNameSince, IsTarget, NamesBlock, NamesSince}
 use Rattle.rl_runs.specs.Moves.{goto}

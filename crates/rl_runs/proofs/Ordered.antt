@@ -3,18 +3,16 @@ use Rattle.std.proofs.Common.{◌≡◌, ℕ, inl, nat_eq, Bool, true, false, Op
 use Rattle.std.proofs.Common.{sym, subst}
 use Rattle.std.proofs.lemmas.List.Elements.{All-head, All-tail}
 use Rattle.std.specs.Option.{option_map}
-use Rattle.rl_base.specs.declared.ids.BlockId.{BlockId}
 use Rattle.rl_base.specs.declared.ids.InstructionId.{InstructionId}
-use Rattle.rl_builder.specs.Builder.{State}
 use Rattle.rl_hir.specs.Blocks.{Pair as BlockPair, block_at, same_id}
 use Rattle.rl_hir.specs.declared.function.BasicBlock.{BasicBlock}
-use Rattle.rl_hir.specs.declared.instruction.Instruction.{Instruction}
 use Rattle.rl_hir.specs.declared.terminal.TerminalKind.{TerminalKind}
 use Rattle.rl_hir.specs.declared.terminal.TerminalKind.TheVariants as kinds
 use Rattle.rl_machine.specs.Conditions.{ByBranch, ByStep, ByThrow, EndsAs, MayOrder, Reached, ReadsAt, StepsAt, loop_blocks}
 use Rattle.rl_machine.specs.Machine.{Graph, Runs, item_by, item_in}
 use Rattle.rl_machine.specs.Prunes.{Each, ReadsNote}
 use Rattle.rl_order.proofs.Ordering.{or_left, or_right, same_self}
+use Rattle.rl_runs.proofs.Common.{BlockId, Instruction, State}
 use Rattle.rl_runs.proofs.Graphs.{FoundAt, found_at}
 use Rattle.rl_runs.proofs.MayOrders.{may_order, replaced_behind}
 use Rattle.rl_runs.specs.Blocks.{AreEnds, is_end}

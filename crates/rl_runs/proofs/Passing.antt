@@ -1,10 +1,9 @@
 -- Parts that complete: what is behind them is reached.
 use Rattle.std.proofs.Common.{length, Option, Some, None}
-use Rattle.rl_base.specs.declared.ids.BlockId.{BlockId}
-use Rattle.rl_builder.specs.Builder.{State, innermost, maybe_throw, new_block, plainly_pushed, pushed, pushed_under, reserved}
+use Rattle.rl_builder.specs.Builder.{innermost, maybe_throw, new_block, plainly_pushed, pushed, pushed_under, reserved}
 use Rattle.rl_hir.specs.Blocks.{same_id}
-use Rattle.rl_hir.specs.declared.instruction.Instruction.{Instruction}
 use Rattle.rl_order.proofs.Ordering.{or_left, same_self}
+use Rattle.rl_runs.proofs.Common.{BlockId, Instruction, State}
 use Rattle.rl_runs.proofs.Moves.{contained_before, terminal_met}
 use Rattle.rl_runs.specs.Blocks.{Leads, Passes}
 use Rattle.rl_runs.specs.Facts.{Extends}

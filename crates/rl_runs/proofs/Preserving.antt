@@ -1,15 +1,12 @@
 -- The moves that lowering is made of preserve the blocks.
 use Rattle.std.proofs.Common.{◌≡◌, ℕ, inl, inr, List, [], Option, Some, Ok, refl, sym, subst, arith}
 use Rattle.rl_base.specs.declared.diagnostic.Diagnostic.{Diagnostic}
-use Rattle.rl_base.specs.declared.ids.BlockId.{BlockId}
-use Rattle.rl_base.specs.declared.span.Span.{Span}
-use Rattle.rl_builder.specs.Builder.{State, ended_by, new_block, pushed, recorded, reserved, with_temporary}
+use Rattle.rl_builder.specs.Builder.{ended_by, new_block, pushed, recorded, reserved, with_temporary}
 use Rattle.rl_builder.specs.declared.jumps.JumpScope.{JumpScope}
 use Rattle.rl_builder.specs.Jumps.{lookup_break, lookup_continue}
 use Rattle.rl_builder.specs.Names.{NamesAgree, resolved}
 use Rattle.rl_builder.specs.Temporaries.{temporary, unordered, with_value}
 use Rattle.rl_hir.specs.declared.function.BlockKind.{BlockKind}
-use Rattle.rl_hir.specs.declared.instruction.Instruction.{Instruction}
 use Rattle.rl_hir.specs.declared.instruction.InstructionValue.{InstructionValue}
 use Rattle.rl_hir.specs.declared.instruction.Place.{Place}
 use Rattle.rl_hir.specs.declared.terminal.GotoVariant.{GotoVariant}
@@ -17,6 +14,7 @@ use Rattle.rl_hir.specs.declared.terminal.ReturnVariant.{ReturnVariant}
 use Rattle.rl_hir.specs.declared.terminal.TerminalKind.TheVariants as ends
 use Rattle.rl_model.specs.Actions.{Label}
 use Rattle.rl_runs.proofs.BlockIds.{ids_fresh, ids_pushed, ids_refl, ids_then}
+use Rattle.rl_runs.proofs.Common.{BlockId, Instruction, Span, State}
 use Rattle.rl_runs.proofs.Moves.{contained_before, extends_completed, extends_pushed, extends_recorded, extends_refl, extends_reserved}
 use Rattle.rl_runs.proofs.Moves.{extends_resolved, extends_temporary, extends_then}
 use Rattle.rl_runs.proofs.Naming.{break_is_target, continue_is_target, named_ended, named_first, named_none, named_pushed, named_refl}

@@ -3,22 +3,20 @@ use Rattle.std.proofs.Common.{◌≡◌, ℕ, true, false, ◌++◌, List, [], �
 use Rattle.std.proofs.lemmas.List.Elements.{All-cons, All-head, All-nil, All-tail}
 use Rattle.rl_base.specs.Operators.{operator_text}
 use Rattle.rl_base.specs.declared.operator.BinaryOperator.{BinaryOperator}
-use Rattle.rl_base.specs.declared.span.Span.{Span}
-use Rattle.rl_builder.specs.Builder.{State}
 use Rattle.rl_builder.specs.Temporaries.{temporary, with_value}
 use Rattle.rl_hir.specs.declared.instruction.InstructionValue.{InstructionValue}
 use Rattle.rl_hir.specs.declared.instruction.InstructionValue.TheVariants as values
 use Rattle.rl_hir.specs.declared.instruction.PrimitiveValue.TheVariants as primitives
 use Rattle.rl_machine.specs.Acts.{Asks, act, gives, keeps}
 use Rattle.rl_machine.specs.declared.trace.Event.{Event}
-use Rattle.rl_machine.specs.declared.trace.Value.{Value}
 use Rattle.rl_machine.specs.declared.trace.Value.TheVariants as value
-use Rattle.rl_machine.specs.Traces.{Store, World, fired, set_open}
+use Rattle.rl_machine.specs.Traces.{fired, set_open}
 use Rattle.rl_model.specs.Actions.{Action}
 use Rattle.rl_model.specs.Events.{Key, binary, load, store_in}
 use Rattle.rl_model.specs.Expressions.{first_piece, later_pieces, update_property}
 use Rattle.rl_model.specs.Scene.{Scene}
 use Rattle.rl_model.specs.Shapes.{first_character}
+use Rattle.rl_runs.proofs.Common.{Span, State, Store, Value, World}
 use Rattle.rl_runs.proofs.Expressions.{all_asked, all_kept, over_asked, over_given, over_kept}
 use Rattle.rl_runs.proofs.Growing.{arranged_runs, both_run, fronted_runs, picked_runs}
 use Rattle.rl_runs.proofs.Moves.{extends_then, extends_value}

@@ -4,12 +4,11 @@ use Rattle.std.proofs.Common.{None, refl, sym, ap, ◌∙◌, subst}
 use Rattle.std.proofs.lemmas.Bool.Decides.{eqb_tells}
 use Rattle.std.proofs.lemmas.List.Elements.{All-head, All-tail}
 use Rattle.std.proofs.lemmas.Option.{none-some, same_Some}
-use Rattle.rl_machine.specs.declared.trace.Answer.{Answer}
 use Rattle.rl_machine.specs.declared.trace.Assignment.{Assignment}
-use Rattle.rl_machine.specs.declared.trace.Value.{Value}
 use Rattle.rl_machine.specs.Ends.{Notes}
-use Rattle.rl_machine.specs.Machine.{Code, changer, kept_by, set_by, set_where, value_where}
-use Rattle.rl_machine.specs.Traces.{Store, World, set, set_open}
+use Rattle.rl_machine.specs.Machine.{changer, kept_by, set_by, set_where, value_where}
+use Rattle.rl_machine.specs.Traces.{set, set_open}
+use Rattle.rl_runs.proofs.Common.{Answer, Code, Store, Value, World}
 use Rattle.rl_runs.proofs.Steps.{set_other, set_same}
 use Rattle.rl_runs.specs.Continuations.{Agrees, Range, SharesVariables, Since, kept_in}
 use Rattle.rl_runs.specs.Facts.{AreOne, Nobody}

@@ -1,13 +1,11 @@
 -- The numbers of blocks, types, identifiers and instructions that moves add, together.
 use Rattle.std.proofs.Common.{◌≡◌, ℕ, ◌+◌, ◌≤◌, ◌++◌, List, [], ◌∷◌, length, length-append, Option, Some, None, arith}
-use Rattle.rl_base.specs.declared.ids.BlockId.{BlockId}
-use Rattle.rl_base.specs.declared.span.Span.{Span}
-use Rattle.rl_builder.specs.Builder.{State, innermost, pushed, pushed_under, with_temporary}
+use Rattle.rl_builder.specs.Builder.{innermost, pushed, pushed_under, with_temporary}
 use Rattle.rl_builder.specs.Names.{resolved, resolved_by}
 use Rattle.rl_builder.specs.Temporaries.{temporary, unordered, with_value}
-use Rattle.rl_hir.specs.declared.instruction.Instruction.{Instruction}
 use Rattle.rl_hir.specs.declared.instruction.InstructionValue.{InstructionValue}
 use Rattle.rl_hir.specs.Pairs.{identifier_of}
+use Rattle.rl_runs.proofs.Common.{BlockId, Instruction, Span, State}
 use Rattle.rl_runs.specs.Blocks.{size_of}
 
 size_under : (o : Option BlockId) (s : State) (i : Instruction) → size_of (pushed_under o s i) ≤ size_of s + 2

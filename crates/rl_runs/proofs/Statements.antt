@@ -1,8 +1,6 @@
 -- The runs of statements in order, of jumps, returns and throws, and of an expression whose value is dropped.
 use Rattle.std.proofs.Common.{◌≡◌, ℕ, List, [], length, Option, Some, None, Ok, refl, sym, ap, ◌∙◌, subst}
-use Rattle.rl_base.specs.declared.ids.BlockId.{BlockId}
-use Rattle.rl_base.specs.declared.span.Span.{Span}
-use Rattle.rl_builder.specs.Builder.{State, innermost, new_block, reserved}
+use Rattle.rl_builder.specs.Builder.{innermost, new_block, reserved}
 use Rattle.rl_builder.specs.Jumps.{lookup_break, lookup_continue}
 use Rattle.rl_builder.specs.Temporaries.{with_value}
 use Rattle.rl_hir.specs.declared.function.BlockKind.{BlockKind}
@@ -12,14 +10,13 @@ use Rattle.rl_hir.specs.declared.terminal.ReturnVariant.{ReturnVariant}
 use Rattle.rl_hir.specs.declared.terminal.TerminalKind.TheVariants as ends
 use Rattle.rl_hir.specs.declared.instruction.InstructionValue.{InstructionValue}
 use Rattle.rl_machine.specs.Acts.{Asks, act, gives}
-use Rattle.rl_machine.specs.declared.trace.Answer.{Answer}
 use Rattle.rl_machine.specs.declared.trace.Assignment.{Assignment}
 use Rattle.rl_machine.specs.declared.trace.Event.{Event}
-use Rattle.rl_machine.specs.declared.trace.Value.{Value}
 use Rattle.rl_machine.specs.Ends.{Notes}
-use Rattle.rl_machine.specs.Machine.{Code, Ends}
-use Rattle.rl_machine.specs.Traces.{Cont, Store, World, fired, returned, set_open, threw}
+use Rattle.rl_machine.specs.Machine.{Ends}
+use Rattle.rl_machine.specs.Traces.{Cont, fired, returned, set_open, threw}
 use Rattle.rl_model.specs.Actions.{Action, Label, Ways, break_to, continue_to, done}
+use Rattle.rl_runs.proofs.Common.{Answer, BlockId, Code, Span, State, Store, Value, World}
 use Rattle.rl_runs.proofs.Expressions.{all_asked, none_run}
 use Rattle.rl_runs.proofs.Holes.{hole_goes, same_jumps, same_throws, use_expression, use_statement}
 use Rattle.rl_runs.proofs.Moves.{contained_before, extends_completed, extends_refl, extends_reserved, extends_then, inside}

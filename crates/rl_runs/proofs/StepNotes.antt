@@ -2,15 +2,14 @@
 use Rattle.std.proofs.Common.{◌≡◌, ℕ, zero, suc, ◌+◌, ◌<◌, ◌≤◌, ◌⊎◌, inl, inr, ◌++◌, List, [], ◌∷◌, length, length-append, slice_get}
 use Rattle.std.proofs.Common.{Option, Some, None, refl, sym, ap, ◌∙◌, subst, arith}
 use Rattle.std.proofs.lemmas.Option.{slice_get_within}
-use Rattle.rl_base.specs.declared.ids.BlockId.{BlockId}
 use Rattle.rl_base.specs.declared.ids.InstructionId.{InstructionId}
-use Rattle.rl_builder.specs.Builder.{State, completed_by, ended_by, innermost, maybe_throw, new_block, plainly_pushed, pushed}
+use Rattle.rl_builder.specs.Builder.{completed_by, ended_by, innermost, maybe_throw, new_block, plainly_pushed, pushed}
 use Rattle.rl_builder.specs.Builder.{pushed_under, reserved}
 use Rattle.rl_builder.specs.declared.blocks.WipBlock.{WipBlock}
 use Rattle.rl_hir.specs.Blocks.{Pair as BlockPair}
-use Rattle.rl_hir.specs.declared.instruction.Instruction.{Instruction}
 use Rattle.rl_hir.specs.declared.terminal.Terminal.{Terminal}
 use Rattle.rl_machine.specs.Prunes.{ReadsNote}
+use Rattle.rl_runs.proofs.Common.{BlockId, Instruction, State}
 use Rattle.rl_runs.proofs.Steps.{added_cases, get_more}
 use Rattle.rl_runs.specs.StepNotes.{AreIn, HasStep, KeepsSteps, KnowsListed, StepIn}
 

@@ -1,12 +1,11 @@
 -- No step stands at the test of a `do`-`while` loop and behind constructs whose terminals `build` may replace, move by move.
 use Rattle.std.proofs.Common.{◌≡◌, ℕ, ◌<◌, ◌≤◌, inl, inr, List, [], Option, Some, None, subst, arith}
-use Rattle.rl_base.specs.declared.ids.BlockId.{BlockId}
-use Rattle.rl_builder.specs.Builder.{State, completed_by, innermost, maybe_throw, new_block, plainly_pushed, pushed, pushed_under}
+use Rattle.rl_builder.specs.Builder.{completed_by, innermost, maybe_throw, new_block, plainly_pushed, pushed, pushed_under}
 use Rattle.rl_builder.specs.Builder.{reserved}
 use Rattle.rl_builder.specs.declared.blocks.WipBlock.{WipBlock}
-use Rattle.rl_hir.specs.declared.instruction.Instruction.{Instruction}
 use Rattle.rl_hir.specs.declared.terminal.Terminal.{Terminal}
 use Rattle.rl_machine.specs.Prunes.{ReadsNote}
+use Rattle.rl_runs.proofs.Common.{BlockId, Instruction, State}
 use Rattle.rl_runs.proofs.Naming.{named_none}
 use Rattle.rl_runs.proofs.ReadNotes.{marked_ended}
 use Rattle.rl_runs.proofs.StepNotes.{steps_ended, steps_pushed}

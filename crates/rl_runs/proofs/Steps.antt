@@ -2,16 +2,14 @@
 use Rattle.std.proofs.Common.{◌≡◌, ℕ, zero, suc, ◌<◌, ◌≤◌, ◌⊎◌, inl, inr, ◌++◌, List, [], ◌∷◌, length, slice_get, Option, Some, None}
 use Rattle.std.proofs.Common.{cond, refl, ap, ◌∙◌, arith, eq-eqb}
 use Rattle.std.proofs.lemmas.Bool.{ne_eqb}
-use Rattle.rl_base.specs.declared.ids.BlockId.{BlockId}
 use Rattle.rl_builder.specs.declared.jumps.JumpScope.{JumpScope}
-use Rattle.rl_machine.specs.declared.trace.Answer.{Answer}
 use Rattle.rl_machine.specs.declared.trace.Trace.{Trace}
-use Rattle.rl_machine.specs.declared.trace.Value.{Value}
 use Rattle.rl_machine.specs.Ends.{Note, Notes, noted}
-use Rattle.rl_machine.specs.Machine.{Code, Item, Next, step}
+use Rattle.rl_machine.specs.Machine.{Item, Next, step}
 use Rattle.rl_machine.specs.Silence.{walk}
-use Rattle.rl_machine.specs.Traces.{Cont, Store, ValueCont, set}
+use Rattle.rl_machine.specs.Traces.{Cont, ValueCont, set}
 use Rattle.rl_model.specs.Actions.{Label}
+use Rattle.rl_runs.proofs.Common.{Answer, BlockId, Code, Store, Value}
 use Rattle.rl_runs.specs.Continuations.{Agrees, Continues, Eventually, Follows, Inside, IsOutside, Jumps, Later, Range, Since, Throws}
 use Rattle.rl_runs.specs.Continuations.{TracesAt}
 use Rattle.rl_runs.specs.Facts.{Nobody}

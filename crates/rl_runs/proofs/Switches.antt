@@ -1,13 +1,11 @@
 -- The comparisons of a `switch`, in order.
 use Rattle.std.proofs.Common.{◌≡◌, ℕ, inr, List, [], ◌∷◌, Option, Some, None, sym, ◌∙◌, subst, arith}
-use Rattle.rl_base.specs.declared.ids.BlockId.{BlockId}
 use Rattle.rl_hir.specs.declared.instruction.Place.{Place}
 use Rattle.rl_hir.specs.declared.terminal.Case.{Case}
-use Rattle.rl_machine.specs.declared.trace.Answer.{Answer}
-use Rattle.rl_machine.specs.declared.trace.Value.{Value}
 use Rattle.rl_machine.specs.Ends.{Notes}
-use Rattle.rl_machine.specs.Machine.{Code, at, changer, compared, tried}
-use Rattle.rl_machine.specs.Traces.{Cont, Store, World, matches, set_open, tested}
+use Rattle.rl_machine.specs.Machine.{at, changer, compared, tried}
+use Rattle.rl_machine.specs.Traces.{Cont, matches, set_open, tested}
+use Rattle.rl_runs.proofs.Common.{Answer, BlockId, Code, Store, Value, World}
 use Rattle.rl_runs.proofs.Events.{stuck_tests_come}
 use Rattle.rl_runs.proofs.Steps.{inside_refl, since_then}
 use Rattle.rl_runs.specs.Continuations.{Eventually, Follows, Range, SharesVariables, Since}

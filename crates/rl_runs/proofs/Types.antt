@@ -1,16 +1,14 @@
 -- Type variables: a state with one more, and the runs of a value under a type.
 use Rattle.std.proofs.Common.{◌≡◌, ◌+◌, inl, inr, [], ◌∷◌, length, Option, refl, arith}
-use Rattle.rl_base.specs.declared.span.Span.{Span}
-use Rattle.rl_builder.specs.Builder.{State, with_type}
+use Rattle.rl_builder.specs.Builder.{with_type}
 use Rattle.rl_builder.specs.Temporaries.{with_value}
 use Rattle.rl_hir.specs.declared.instruction.HirType.{HirType}
 use Rattle.rl_hir.specs.declared.instruction.InstructionValue.TheVariants as values
 use Rattle.rl_hir.specs.declared.instruction.Place.{Place}
-use Rattle.rl_machine.specs.declared.trace.Value.{Value}
-use Rattle.rl_machine.specs.Traces.{World}
 use Rattle.rl_model.specs.Actions.{Action}
 use Rattle.rl_model.specs.Expressions.{first_piece}
 use Rattle.rl_runs.proofs.BlockIds.{ids_refl}
+use Rattle.rl_runs.proofs.Common.{Span, State, Value, World}
 use Rattle.rl_runs.proofs.Expressions.{one_runs, all_given}
 use Rattle.rl_runs.proofs.FinalNames.{names_refl}
 use Rattle.rl_runs.proofs.Moves.{extends_then}

@@ -3,8 +3,6 @@ use Rattle.std.proofs.Common.{◌≡◌, ℕ, true, false, List, [], ◌∷◌, 
 use Rattle.rl_base.specs.Operators.{update_text}
 use Rattle.rl_base.specs.declared.ids.SymbolId.{SymbolId}
 use Rattle.rl_base.specs.declared.operator.UpdateOperator.{UpdateOperator}
-use Rattle.rl_base.specs.declared.span.Span.{Span}
-use Rattle.rl_builder.specs.Builder.{State}
 use Rattle.rl_builder.specs.declared.blocks.WipBlock.{WipBlock}
 use Rattle.rl_builder.specs.Names.{NamesAgree, resolved}
 use Rattle.rl_builder.specs.Temporaries.{with_value}
@@ -14,17 +12,16 @@ use Rattle.rl_hir.specs.declared.instruction.InstructionValue.TheVariants as val
 use Rattle.rl_hir.specs.declared.instruction.Place.{Place}
 use Rattle.rl_hir.specs.Pairs.{identifier_of}
 use Rattle.rl_machine.specs.Acts.{Asks, Computes, Landing, act, declared, landed}
-use Rattle.rl_machine.specs.declared.trace.Answer.{Answer}
 use Rattle.rl_machine.specs.declared.trace.Event.{Event}
-use Rattle.rl_machine.specs.declared.trace.Value.{Value}
 use Rattle.rl_machine.specs.declared.trace.Value.TheVariants as value
-use Rattle.rl_machine.specs.Traces.{Store, World, fired, set, set_open}
+use Rattle.rl_machine.specs.Traces.{fired, set, set_open}
 use Rattle.rl_model.specs.Actions.{Action, variable}
 use Rattle.rl_model.specs.Events.{update}
 use Rattle.rl_model.specs.Expressions.{update_name}
 use Rattle.rl_model.specs.Scene.{Scene}
 use Rattle.rl_names.specs.declared.names.Meaning.TheVariants.{Local}
 use Rattle.rl_runs.proofs.Asking.{asks_on}
+use Rattle.rl_runs.proofs.Common.{Answer, Span, State, Store, Value, World}
 use Rattle.rl_runs.proofs.Expressions.{local_runs, stored_runs}
 use Rattle.rl_runs.proofs.Holes.{computes_on, same_jumps, same_throws, use_expression, use_statement}
 use Rattle.rl_runs.proofs.Moves.{contained_before, extends_refl, extends_resolved, extends_then, extends_value, inside, value_free}
