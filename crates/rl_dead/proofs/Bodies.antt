@@ -2,10 +2,9 @@
 use Rattle.std.proofs.Common.{◌≡◌, ℕ, true, ◌||◌, Some, None, List, [], ◌∷◌, ap, sym, refl, ◌∙◌}
 use Rattle.std.specs.List.{list_any}
 use Rattle.std.proofs.Math.Path.{subst}
-use Rattle.rl_base.proofs.Bools.{or_assoc, or_false}
 use Rattle.rl_code.proofs.FunctionParts.{no_parts, parts_are}
 use Rattle.rl_code.specs.Parts.{parts_of_function}
-use Rattle.rl_dead.proofs.Covering.{adds_none}
+use Rattle.rl_dead.proofs.Covering.{adds_none, or_assoc, or_none}
 use Rattle.rl_dead.specs.Functions.{body_statements, is_dead_in}
 use Rattle.rl_dead.specs.Ranges.{Adds, is_covered}
 use Rattle.rl_dead.specs.Walks.{WalkedStatements}
@@ -57,6 +56,6 @@ more_functions d e function rest all so q n =
 pub no_functions : (d : List Range) (all : List Syntax)
     → ((n : ℕ) → (is_covered d n || list_any (is_dead_in n) []) ≡ list_any (is_dead_in n) all) → (n : ℕ)
     → is_covered d n ≡ list_any (is_dead_in n) all
-no_functions d all so n = sym (or_false (is_covered d n)) ∙ so n
+no_functions d all so n = or_none (is_covered d n) ∙ so n
 
 pub ruleset all_functions = (more_functions, no_functions)

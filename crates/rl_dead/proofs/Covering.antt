@@ -2,13 +2,20 @@
 use Rattle.std.proofs.Common.{◌≡◌, ℕ, nat_le, Bool, true, false, ◌&&◌, ◌||◌, not, List, [], ◌∷◌, ◌++◌, refl, sym, ap, ◌∙◌}
 use Rattle.std.specs.List.{list_any}
 use Rattle.std.proofs.lemmas.List.Folds.{list_any-append}
-use Rattle.rl_base.proofs.Bools.{or_assoc, or_false}
 use Rattle.rl_dead.specs.Ranges.{Adds, holds, is_covered}
 use Rattle.rl_dead.specs.declared.ranges.Range.{Range}
 use Rattle.rl_model.specs.Dead.{parts_if}
 use Rattle.rl_model.specs.Supported.{is_among}
 use Rattle.rl_names.specs.Names.{at_of}
 use Rattle.rl_syntax.specs.Syntax.{Syntax, Node, Listed, Said, Count, Flag, Absent}
+
+pub or_none : (b : Bool) → b ≡ b || false
+or_none true = refl
+or_none false = refl
+
+pub or_assoc : (a b c : Bool) → (a || b) || c ≡ a || (b || c)
+or_assoc true b c = refl
+or_assoc false b c = refl
 
 pub or_swap : (a b : Bool) → a || b ≡ b || a
 or_swap true true = refl
@@ -29,7 +36,7 @@ among (Flag flag) n = nowhere (nat_le 0 n)
 among Absent n = nowhere (nat_le 0 n)
 
 pub adds_none : (d : List Range) → Adds d d []
-adds_none d = record { covers = λ n. sym (or_false (is_covered d n)) }
+adds_none d = record { covers = λ n. or_none (is_covered d n) }
 
 pub adds_one : (d : List Range) (r : Range) (tree : Syntax) → ((n : ℕ) → holds n r ≡ is_among n tree) → Adds d (d ++ r ∷ []) (tree ∷ [])
 adds_one d r tree is = record {

@@ -2,8 +2,8 @@
 use Rattle.std.proofs.Common.{◌≡◌, ◌<◌, ◌≤◌, ℕ, ◌+◌, nat_eq, nat_le, true, false, ◌&&◌, ◌||◌, not, List, [], ◌∷◌, ◌++◌, eqb-true, nat_lt}
 use Rattle.std.proofs.Common.{ltb-true, ltb-false, arith, ap, sym, refl, ◌∙◌}
 use Rattle.std.proofs.lemmas.Bool.{eqb-false, le-leb, leb-false, leb-true, lt-leb}
-use Rattle.rl_base.proofs.Bools.{or_assoc, or_false}
 use Rattle.rl_bindings.proofs.LookUps.{by_test}
+use Rattle.rl_dead.proofs.Covering.{or_assoc, or_none}
 use Rattle.rl_dead.specs.Ranges.{holds, is_covered}
 use Rattle.rl_dead.specs.declared.ranges.Range.{Range}
 use Rattle.rl_model.specs.Code.{contains}
@@ -45,7 +45,7 @@ pub id_more : (out old : List ℕ) (id end : ℕ) (range : Range) → id < end
     → (contains (out ++ id ∷ []) node || (nat_le (id + 1) node && not (nat_le end node))) ≡ (contains old node || holds node range)
 id_more out old id end range within so node =
     ap (λ c. c || (nat_le (id + 1) node && not (nat_le end node)))
-    (contains_append out (id ∷ []) node ∙ ap (λ c. contains out node || c) (or_false (nat_eq node id)))
+    (contains_append out (id ∷ []) node ∙ ap (λ c. contains out node || c) (sym (or_none (nat_eq node id))))
     ∙ or_assoc (contains out node) (nat_eq node id) (nat_le (id + 1) node && not (nat_le end node))
     ∙ ap (λ c. contains out node || c) (from_next id end node within) ∙ so node
 
@@ -53,7 +53,7 @@ pub id_last : (out old : List ℕ) (id end : ℕ) (range : Range) → end ≤ id
     → ((node : ℕ) → (contains out node || (nat_le id node && not (nat_le end node))) ≡ (contains old node || holds node range)) → (node : ℕ)
     → contains out node ≡ (contains old node || holds node range)
 id_last out old id end range past so node =
-    sym (or_false (contains out node)) ∙ ap (λ c. contains out node || c) (no_more id end node past) ∙ so node
+    or_none (contains out node) ∙ ap (λ c. contains out node || c) (no_more id end node past) ∙ so node
 
 pub ruleset ids = (id_more, id_last)
 
@@ -66,6 +66,6 @@ range_more out new range rest all so step n =
 
 pub range_last : (out : List ℕ) (all : List Range) → ((n : ℕ) → (contains out n || is_covered [] n) ≡ is_covered all n) → (n : ℕ)
     → contains out n ≡ is_covered all n
-range_last out all so n = sym (or_false (contains out n)) ∙ so n
+range_last out all so n = or_none (contains out n) ∙ so n
 
 pub ruleset all_ranges = (range_more, range_last)

@@ -4,8 +4,8 @@ use Rattle.std.proofs.Common.{append_assoc, refl, sym, ap, ◌∙◌}
 use Rattle.std.specs.List.{list_any}
 use Rattle.std.proofs.Math.Path.{subst}
 use Rattle.std.proofs.lemmas.List.Folds.{list_any-append}
-use Rattle.rl_base.proofs.Bools.{and_true, or_assoc, or_false}
 use Rattle.rl_bindings.proofs.LookUps.{by_test}
+use Rattle.rl_dead.proofs.Covering.{or_assoc, or_none}
 use Rattle.rl_dead.specs.Jumps.{breaks, continues}
 use Rattle.rl_dead.specs.Parts.{case_statements}
 use Rattle.rl_dead.specs.Ranges.{Adds, is_covered}
@@ -18,6 +18,10 @@ use Rattle.rl_model.specs.Dead.{quiet}
 use Rattle.rl_model.specs.Supported.{is_among}
 use Rattle.rl_syntax.specs.Syntax.{Syntax, Node, Listed, Pieces, End, Then}
 use Rattle.rl_syntax.specs.declared.word.Word.TheVariants as word
+
+or_false : (b : Bool) → b || false ≡ b
+or_false true = refl
+or_false false = refl
 
 -- A statement behind one that may complete normally.
 pub live_next : (j k : Jumps) (d e : List Range) (before f after : Flow) (s : Syntax) → before.falls ≡ true
@@ -144,6 +148,10 @@ nothing_else : {X : Type 0} (x : List X) (b : Bool) → x ++ (if b then [] else 
 nothing_else x true = append-nil x
 nothing_else x false = append-nil x
 
+and_true : (b : Bool) → (b && true) ≡ b
+and_true true = refl
+and_true false = refl
+
 and_false : (a b : Bool) → (a || (b && false)) ≡ a
 and_false true b = refl
 and_false false true = refl
@@ -163,7 +171,7 @@ statements_end j k d e f all q = record {
     continued = sym (nothing_else (continues k) f.falls) ∙ q.continued;
     dead = record {
       covers = λ n.
-          sym (or_false (is_covered e n)) ∙ ap (λ l. is_covered e n || list_any (is_among n) l) (sym (dead_end f.falls)) ∙ q.dead n;
+          or_none (is_covered e n) ∙ ap (λ l. is_covered e n || list_any (is_among n) l) (sym (dead_end f.falls)) ∙ q.dead n;
     };
   };
 }
@@ -180,7 +188,7 @@ case_falls _ rest statements is = absurd (cc)
 case_acts : (c : Syntax) (rest statements : Pieces) → Some statements ≡ case_statements c
     → (lives_cases (Then c rest)).acts ≡ ((lives_all statements).acts || (lives_cases rest).acts)
 case_acts (Node at word.Case (Then condition (Then (Listed items) End))) End statements is =
-    let same : statements ≡ items = cc in ap (λ s. (lives_all s).acts) (sym same) ∙ sym (or_false (lives_all statements).acts)
+    let same : statements ≡ items = cc in ap (λ s. (lives_all s).acts) (sym same) ∙ or_none (lives_all statements).acts
 case_acts (Node at word.Case (Then condition (Then (Listed items) End))) (Then next rest) statements is =
     let same : statements ≡ items = cc in ap (λ s. (lives_all s).acts || (lives_cases (Then next rest)).acts) (sym same)
 case_acts _ rest statements is = absurd (cc)
@@ -264,7 +272,7 @@ cases_end j k d e falls acts f all q live same = record {
     acts = same ∙ sym (or_false acts) ∙ q.acted;
     broken = sym (append-nil (breaks k)) ∙ q.broken;
     continued = sym (append-nil (continues k)) ∙ q.continued;
-    dead = record { covers = λ n. sym (or_false (is_covered e n)) ∙ q.dead n };
+    dead = record { covers = λ n. or_none (is_covered e n) ∙ q.dead n };
   };
 }
 
@@ -281,7 +289,7 @@ cases_stop j k d e falls acts f all rest c q none live same =
         continued = sym (append-nil (continues k)) ∙ ap (λ (x : Lives). continues k ++ x.outs.continues) (sym lives_are) ∙ q.continued;
         dead = record {
           covers = λ n.
-              sym (or_false (is_covered e n)) ∙ ap (λ l. is_covered e n || list_any (is_among n) l) (sym (no_dead c rest none)) ∙ q.dead n;
+              or_none (is_covered e n) ∙ ap (λ l. is_covered e n || list_any (is_among n) l) (sym (no_dead c rest none)) ∙ q.dead n;
         };
       };
     }

@@ -1,9 +1,8 @@
 -- The least marker of each symbol.
-use Rattle.std.proofs.Common.{◌≡◌, ◌<◌, ◌≤◌, ℕ, zero, suc, nat_eq, nat_le, eqb-true, true, false, ◌&&◌, ◌||◌, Option, Some, None}
+use Rattle.std.proofs.Common.{◌≡◌, ◌<◌, ◌≤◌, ℕ, zero, suc, nat_eq, nat_le, eqb-true, Bool, true, false, ◌&&◌, ◌||◌, Option, Some, None}
 use Rattle.std.proofs.Common.{List, [], ◌∷◌, ◌++◌, length, slice_get, slice_set, arith, ap, sym, refl, ◌∙◌}
 use Rattle.std.specs.List.{list_any}
 use Rattle.std.proofs.lemmas.Bool.{eqb-false, le-leb, leb-true}
-use Rattle.rl_base.proofs.Bools.{or_assoc, or_false}
 use Rattle.rl_bindings.proofs.LookUps.{by_test, get_set_other, get_set_same}
 use Rattle.rl_bindings.specs.declared.bindings.Bindings.{Bindings}
 use Rattle.rl_bindings.specs.declared.event.Bound.{Bound}
@@ -22,6 +21,10 @@ added [] zero node = refl
 added [] (suc n) node = refl
 added (m ∷ least) zero node = refl
 added (m ∷ least) (suc n) node = added least n node
+
+or_false : (b : Bool) → (b || false) ≡ b
+or_false true = refl
+or_false false = refl
 
 -- The lesser of two is up to a node where one of them is.
 pub lesser_first : (known number node : ℕ) → known ≤ number → nat_le known node ≡ (nat_le known node || nat_le number node)
@@ -67,6 +70,10 @@ pub least_more : (least new : List (Option ℕ)) (mark : Mark) (rest all : List 
 least_more least new mark rest all so step s n =
     ap (λ b. b || is_marked rest s n) (step s n)
     ∙ or_assoc (before least s n) (nat_eq s mark.symbol && nat_le mark.node n) (is_marked rest s n) ∙ so s n
+  where
+    or_assoc : (a b c : Bool) → (a || b) || c ≡ a || (b || c)
+    or_assoc true b c = refl
+    or_assoc false b c = refl
 
 pub tabled : (b : Bindings) (names : Names) (function : Syntax) (table : MarkerTable) (least : List (Option ℕ)) (marks : List Mark)
     (lists : List StatementList) → lists ≡ lists_in function

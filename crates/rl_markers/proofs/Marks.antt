@@ -4,7 +4,6 @@ use Rattle.std.proofs.Common.{◌∷◌, ◌++◌, map, slice_get, ap, sym, refl
 use Rattle.std.specs.BTreeSet.{BTreeSet}
 use Rattle.std.proofs.Math.Path.{subst}
 use Rattle.std.proofs.lemmas.List.Folds.{list_any-append}
-use Rattle.rl_base.proofs.Bools.{and_true, or_false}
 use Rattle.rl_bindings.proofs.LookUps.{by_test}
 use Rattle.rl_bindings.specs.declared.bindings.Bindings.{Bindings}
 use Rattle.rl_bindings.specs.declared.event.Bound.{Bound}
@@ -21,15 +20,23 @@ use Rattle.rl_syntax.specs.declared.numbered.Numbered.TheVariants as numbered
 use Rattle.rl_syntax.specs.declared.word.Word.{Word}
 use Rattle.rl_syntax.proofs.Layers.{syntax_node, syntax_list, syntax_text, syntax_number, syntax_flag, syntax_absent}
 
+or_none : (b : Bool) → b ≡ b || false
+or_none true = refl
+or_none false = refl
+
 and_none : (b : Bool) → (b && false) ≡ false
 and_none true = refl
 and_none false = refl
+
+or_assoc : (a b c : Bool) → (a || b) || c ≡ a || (b || c)
+or_assoc true b c = refl
+or_assoc false b c = refl
 
 pub mark_pushed : (marks : List Mark) (m : Mark) (s n : ℕ)
     → is_marked (marks ++ m ∷ []) s n ≡ (is_marked marks s n || (nat_eq s m.symbol && nat_le m.node n))
 mark_pushed marks m s n =
     list_any-append (λ (m : Mark). nat_eq s m.symbol && nat_le m.node n) marks (m ∷ [])
-    ∙ ap (λ b. is_marked marks s n || b) (or_false (nat_eq s m.symbol && nat_le m.node n))
+    ∙ ap (λ b. is_marked marks s n || b) (sym (or_none (nat_eq s m.symbol && nat_le m.node n)))
 
 -- A statement marks and closes: the marks so far, and those of the statements behind it.
 marked_on : (so_far opens closed early declared reached later : Bool)
@@ -38,7 +45,7 @@ marked_on : (so_far opens closed early declared reached later : Bool)
 marked_on true opens closed early declared reached later = refl
 marked_on false false closed early declared reached later = refl
 marked_on false true true early declared reached later = refl
-marked_on false true false true declared reached later = or_false reached
+marked_on false true false true declared reached later = sym (or_none reached)
 marked_on false true false false true reached later = refl
 marked_on false true false false false reached later = refl
 
@@ -120,6 +127,10 @@ pub begin : (b : Bindings) (names : Names) (opened : List ℕ) (c : BTreeSet ℕ
 begin b names opened c m all none n s first is =
     ap (λ x. is_marked m s n || ((contains opened s && not x) && marks_in b names n s first all)) (none s)
     ∙ ap (λ x. is_marked m s n || (x && marks_in b names n s first all)) (and_true (contains opened s))
+  where
+    and_true : (x : Bool) → (x && true) ≡ x
+    and_true true = refl
+    and_true false = refl
 
 -- A statement more.
 pub more : (b : Bindings) (names : Names) (opened : List ℕ) (c0 c1 : BTreeSet ℕ) (old m0 m1 : List Mark) (statement : Syntax) (rest all : Pieces)
@@ -139,7 +150,7 @@ pub ended : (b : Bindings) (names : Names) (opened : List ℕ) (c : BTreeSet ℕ
     → AddsMarks b m0 m (λ n s first. contains opened s && marks_in b names n s first all)
 ended b names opened c m0 m all so = record {
   adds = λ n s first is.
-      sym (or_false (is_marked m s n)) ∙ ap (λ x. is_marked m s n || x) (sym (and_none (contains opened s && not (has c s)))) ∙ so n s first is;
+      or_none (is_marked m s n) ∙ ap (λ x. is_marked m s n || x) (sym (and_none (contains opened s && not (has c s)))) ∙ so n s first is;
 }
 
 pub ruleset statements = (begin, more, ended)
@@ -163,7 +174,7 @@ open_more opened c old m new x node rest all is so step s n =
     ∙ ap (λ y. is_marked m s n || (true && ((y || contains rest s) && nat_le node n))) (sym holds)
     ∙ ap (λ y. is_marked m s n || (y && ((nat_eq s x || contains rest s) && nat_le node n))) (sym free))
     (λ fails. ap (λ y. (is_marked m s n || (y && nat_le node n)) || ((contains opened s && not (has c s)) && (contains rest s && nat_le node n))) fails
-    ∙ ap (λ y. y || ((contains opened s && not (has c s)) && (contains rest s && nat_le node n))) (or_false (is_marked m s n))
+    ∙ ap (λ y. y || ((contains opened s && not (has c s)) && (contains rest s && nat_le node n))) (sym (or_none (is_marked m s n)))
     ∙ ap (λ y. is_marked m s n || ((contains opened s && not (has c s)) && ((y || contains rest s) && nat_le node n))) (sym fails))
     ∙ so s n
   where

@@ -3,7 +3,6 @@ use Rattle.std.proofs.Common.{◌≡◌, ℕ, nat_eq, nat_le, nat_lt, eqb-true, 
 use Rattle.std.proofs.Common.{Some, None, List, [], ◌∷◌, ◌++◌, map, slice_get, ap, sym, refl, ◌∙◌}
 use Rattle.std.specs.List.{list_any}
 use Rattle.std.proofs.Math.Path.{subst}
-use Rattle.rl_base.proofs.Bools.{and_true, or_assoc, or_false}
 use Rattle.rl_base.specs.declared.ids.SymbolId.{SymbolId}
 use Rattle.rl_bindings.proofs.LookUps.{by_test}
 use Rattle.rl_bindings.specs.declared.bindings.Bindings.{Bindings}
@@ -25,17 +24,29 @@ use Rattle.rl_syntax.specs.declared.numbered.At.{At}
 use Rattle.rl_syntax.specs.declared.word.Word.{Word}
 use Rattle.rl_syntax.specs.declared.word.Word.TheVariants as word
 
+or_none : (b : Bool) → b ≡ b || false
+or_none true = refl
+or_none false = refl
+
+or_assoc : (a b c : Bool) → (a || b) || c ≡ a || (b || c)
+or_assoc true b c = refl
+or_assoc false b c = refl
+
+or_true : (b : Bool) → b || true ≡ true
+or_true true = refl
+or_true false = refl
+
 and_false : (b : Bool) → false ≡ b && false
 and_false true = refl
 and_false false = refl
 
 pub contains_pushed : (xs : List ℕ) (x n : ℕ) → contains (xs ++ x ∷ []) n ≡ (contains xs n || nat_eq n x)
-contains_pushed xs x n = contains_append xs (x ∷ []) n ∙ ap (λ b. contains xs n || b) (or_false (nat_eq n x))
+contains_pushed xs x n = contains_append xs (x ∷ []) n ∙ ap (λ b. contains xs n || b) (sym (or_none (nat_eq n x)))
 
 -- Nothing is added where no symbol passes the test.
 pub adds_none : (b : Bindings) (xs : List ℕ) (test : ℕ → Bound → Bool)
     → ((s : ℕ) (first : Bound) → slice_get b.symbols s ≡ Some first → false ≡ test s first) → AddsSymbols b xs xs test
-adds_none b xs test none = record { adds = λ s first is. sym (or_false (contains xs s)) ∙ ap (λ x. contains xs s || x) (none s first is) }
+adds_none b xs test none = record { adds = λ s first is. or_none (contains xs s) ∙ ap (λ x. contains xs s || x) (none s first is) }
 
 -- A symbol is added where it alone passes the test.
 adds_one : (b : Bindings) (xs : List ℕ) (x : ℕ) (test : ℕ → Bound → Bool)
@@ -74,8 +85,12 @@ use_is b s u found is = ap (is_symbol s) (sym is)
 pub used_named : (b : Bindings) (xs : List ℕ) (u : Use) (found : SymbolId) → Some found ≡ symbol_of_reference b.references u.reference
     → (u.inner || hoisted_in b found.0) ≡ true → AddsSymbols b xs (xs ++ found.0 ∷ []) (λ s first. names_as b s first u)
 used_named b xs u found is named = adds_one b xs found.0 (λ s first. names_as b s first u) (λ s first at.
-    eq_swapped s found.0 ∙ sym (and_true (nat_eq found.0 s)) ∙ ap (λ x. nat_eq found.0 s && x) (sym named)
+    eq_swapped s found.0 ∙ and_true (nat_eq found.0 s) ∙ ap (λ x. nat_eq found.0 s && x) (sym named)
     ∙ same_hoisted b s found.0 first u.inner at ∙ ap (λ x. x && (u.inner || is_hoisted_kind first.kind)) (sym (use_is b s u found is)))
+  where
+    and_true : (x : Bool) → x ≡ (x && true)
+    and_true true = refl
+    and_true false = refl
 
 pub used_unnamed : (b : Bindings) (xs : List ℕ) (u : Use) (found : SymbolId) → Some found ≡ symbol_of_reference b.references u.reference
     → (u.inner || hoisted_in b found.0) ≡ false → AddsSymbols b xs xs (λ s first. names_as b s first u)
@@ -93,8 +108,12 @@ pub ruleset used = (used_named, used_unnamed, used_global)
 pub symbol_hoisted : (b : Bindings) (xs : List ℕ) (x : ℕ) → hoisted_in b x ≡ true
     → AddsSymbols b xs (xs ++ x ∷ []) (λ s first. nat_eq s x && is_hoisted_kind first.kind)
 symbol_hoisted b xs x is = adds_one b xs x (λ s first. nat_eq s x && is_hoisted_kind first.kind) (λ s first at.
-    sym (and_true (nat_eq s x)) ∙ ap (λ t. nat_eq s x && t) (sym is) ∙ ap (λ t. t && hoisted_in b x) (eq_swapped s x)
+    and_true (nat_eq s x) ∙ ap (λ t. nat_eq s x && t) (sym is) ∙ ap (λ t. t && hoisted_in b x) (eq_swapped s x)
     ∙ same_hoisted b s x first false at ∙ ap (λ t. t && is_hoisted_kind first.kind) (eq_swapped x s))
+  where
+    and_true : (x : Bool) → x ≡ (x && true)
+    and_true true = refl
+    and_true false = refl
 
 pub symbol_unhoisted : (b : Bindings) (xs : List ℕ) (x : ℕ) → hoisted_in b x ≡ false
     → AddsSymbols b xs xs (λ s first. nat_eq s x && is_hoisted_kind first.kind)
@@ -155,7 +174,7 @@ early_function b xs empty us tree at w none same adds is parts node =
     (record {
       adds = λ s first found.
           adds.adds s first found ∙ ap (λ x. contains empty s || x)
-          (sym (or_false (list_any (names_as b s first) us))
+          (or_none (list_any (names_as b s first) us)
           ∙ early_is b s first (Node at w parts) us false (same ∙ ap (uses_in false) node)
           (ap (λ x. not x && is_around first.node.0 (Node at w parts)) (sym (fundecl_is at w parts ∙ is))));
     })
@@ -190,7 +209,7 @@ pub uses_all : (b : Bindings) (old xs : List ℕ) (all : List Use)
     → ((s : ℕ) (first : Bound) → slice_get b.symbols s ≡ Some first
     → (contains xs s || list_any (names_as b s first) []) ≡ (contains old s || list_any (names_as b s first) all))
     → AddsSymbols b old xs (λ s first. list_any (names_as b s first) all)
-uses_all b old xs all so = record { adds = λ s first is. sym (or_false (contains xs s)) ∙ so s first is }
+uses_all b old xs all so = record { adds = λ s first is. or_none (contains xs s) ∙ so s first is }
 
 pub ruleset uses = (uses_more, uses_all)
 
@@ -216,7 +235,7 @@ pub hoisted_end : (b : Bindings) (old xs : List ℕ) (all : List ℕ)
     → ((s : ℕ) (first : Bound) → slice_get b.symbols s ≡ Some first
     → (contains xs s || (contains [] s && is_hoisted_kind first.kind)) ≡ (contains old s || (contains all s && is_hoisted_kind first.kind)))
     → AddsSymbols b old xs (λ s first. contains all s && is_hoisted_kind first.kind)
-hoisted_end b old xs all so = record { adds = λ s first is. sym (or_false (contains xs s)) ∙ so s first is }
+hoisted_end b old xs all so = record { adds = λ s first is. or_none (contains xs s) ∙ so s first is }
 
 pub ruleset hoisted_all = (hoisted_more, hoisted_end)
 

@@ -3,7 +3,6 @@ use Rattle.std.proofs.Common.{◌≡◌, ℕ, nat_eq, nat_le, nat_lt, eqb-true, 
 use Rattle.std.proofs.Common.{List, [], ◌∷◌, ◌++◌, slice_get, ap, sym, refl, ◌∙◌}
 use Rattle.std.specs.List.{list_any}
 use Rattle.std.proofs.Math.Path.{subst}
-use Rattle.rl_base.proofs.Bools.{and_true, or_assoc, or_false}
 use Rattle.rl_base.specs.declared.ids.SymbolId.{SymbolId}
 use Rattle.rl_bindings.proofs.LookUps.{by_test}
 use Rattle.rl_bindings.specs.declared.bindings.Bindings.{Bindings}
@@ -27,9 +26,17 @@ use Rattle.rl_syntax.specs.declared.numbered.Numbered.TheVariants as numbered
 use Rattle.rl_syntax.specs.declared.word.Word.{Word}
 use Rattle.rl_syntax.proofs.Layers.{syntax_node, syntax_list, syntax_text, syntax_number, syntax_flag, syntax_absent}
 
+or_none : (b : Bool) → b ≡ b || false
+or_none true = refl
+or_none false = refl
+
 and_false : (b : Bool) → false ≡ b && false
 and_false true = refl
 and_false false = refl
+
+and_true : (x : Bool) → x ≡ (x && true)
+and_true true = refl
+and_true false = refl
 
 -- A tree that declares by itself.
 pub direct_declaration : (table : NodeSymbols) (old new : List ℕ) (at : At) (w : Word) (parts : List Numbered) → is_declaration w ≡ true
@@ -41,7 +48,7 @@ direct_declaration table old new at w parts is q =
         adds = λ s first found.
             q.adds b.symbols are s first found
             ∙ ap (λ x. contains old s || x)
-            (sym (or_false (nat_le at.id.0 first.node.0 && nat_lt first.node.0 at.end.0))
+            (or_none (nat_le at.id.0 first.node.0 && nat_lt first.node.0 at.end.0)
             ∙ ap (λ x. (x && (nat_le at.id.0 first.node.0 && nat_lt first.node.0 at.end.0)) || false) (sym is));
       };
     })
@@ -101,13 +108,17 @@ direct_more b table found new tree rest all are so q s first is =
     ap (λ x. x || is_direct first.node.0 rest) ((q.adds b are).adds s first is)
     ∙ or_assoc (contains found s) (is_direct first.node.0 (Then tree End)) (is_direct first.node.0 rest)
     ∙ ap (λ x. contains found s || x) (sym (direct_split first.node.0 tree rest)) ∙ so s first is
+  where
+    or_assoc : (a b c : Bool) → (a || b) || c ≡ a || (b || c)
+    or_assoc true b c = refl
+    or_assoc false b c = refl
 
 pub direct_all : (b : Bindings) (found list : List ℕ) (all : Pieces) → list ≡ found
     → ((s : ℕ) (first : Bound) → slice_get b.symbols s ≡ Some first
     → (contains found s || is_direct first.node.0 End) ≡ is_direct first.node.0 all)
     → AddsSymbols b [] list (λ s first. is_direct first.node.0 all)
 direct_all b found list all same so = record {
-  adds = λ s first is. ap (λ l. contains l s) same ∙ sym (or_false (contains found s)) ∙ so s first is;
+  adds = λ s first is. ap (λ l. contains l s) same ∙ or_none (contains found s) ∙ so s first is;
 }
 
 pub ruleset directs = (direct_more, direct_all)
@@ -143,7 +154,7 @@ candidate_pushed b direct xs scope x result tells holds = record {
   adds = λ s first is.
       contains_pushed xs x s
       ∙ ap (λ t. contains xs s || t)
-      (eq_swapped s x ∙ sym (and_true (nat_eq x s)) ∙ ap (λ r. nat_eq x s && r) (sym holds) ∙ same_candidate b direct scope x s first result tells is);
+      (eq_swapped s x ∙ and_true (nat_eq x s) ∙ ap (λ r. nat_eq x s && r) (sym holds) ∙ same_candidate b direct scope x s first result tells is);
 }
 
 pub candidate_left : (b : Bindings) (direct xs : List ℕ) (scope x : ℕ) (result : Bool)
@@ -180,7 +191,7 @@ pub candidate_all : (b : Bindings) (direct found list : List ℕ) (scope : ℕ) 
     → (contains found s || (any_of [] s && is_candidate b direct scope s first)) ≡ (any_of all s && is_candidate b direct scope s first))
     → AddsSymbols b [] list (λ other first. any_of all other && is_candidate b direct scope other first)
 candidate_all b direct found list scope all same so = record {
-  adds = λ s first is. ap (λ l. contains l s) same ∙ sym (or_false (contains found s)) ∙ so s first is;
+  adds = λ s first is. ap (λ l. contains l s) same ∙ or_none (contains found s) ∙ so s first is;
 }
 
 pub ruleset candidates_all = (candidate_more, candidate_all)
@@ -231,11 +242,15 @@ pub lists_more : (b : Bindings) (names : Names) (m new : List Mark) (l : Stateme
 lists_more b names m new l rest all so q n s first is =
     ap (λ x. x || list_any (marks_list b names n s first) rest) (q.adds n s first is)
     ∙ or_assoc (is_marked m s n) (marks_list b names n s first l) (list_any (marks_list b names n s first) rest) ∙ so n s first is
+  where
+    or_assoc : (a b c : Bool) → (a || b) || c ≡ a || (b || c)
+    or_assoc true b c = refl
+    or_assoc false b c = refl
 
 pub lists_all : (b : Bindings) (names : Names) (m : List Mark) (all : List StatementList)
     → ((n s : ℕ) (first : Bound) → slice_get b.symbols s ≡ Some first
     → (is_marked m s n || list_any (marks_list b names n s first) []) ≡ list_any (marks_list b names n s first) all)
     → AddsMarks b [] m (λ n s first. list_any (marks_list b names n s first) all)
-lists_all b names m all so = record { adds = λ n s first is. sym (or_false (is_marked m s n)) ∙ so n s first is }
+lists_all b names m all so = record { adds = λ n s first is. or_none (is_marked m s n) ∙ so n s first is }
 
 pub ruleset lists = (lists_more, lists_all)

@@ -1,6 +1,5 @@
 -- Orderly nodes, by their form and their word.
 use Rattle.std.proofs.Common.{◌≡◌, ℕ, Bool, true, false, ◌&&◌, not, Option, Some, None, List, map, ap, sym, refl, ◌∙◌}
-use Rattle.rl_base.proofs.Bools.{and_true}
 use Rattle.rl_code.specs.Parts.{first, second, three}
 use Rattle.rl_model.specs.Orderly.{is_link_inside, is_orderly_node, is_steady, is_steady_target}
 use Rattle.rl_model.specs.Shapes.{is_link}
@@ -41,6 +40,10 @@ pub index_none : (n : Names) (a : List ℕ) (w : Word) (parts : Pieces) → None
 index_none n a w parts is = ap (λ (o : Option (Syntax × Syntax)). of_item true (λ p. is_steady n a p.0 && is_steady n a p.1) o) is
 
 pub ruleset index = (index_some, index_none)
+
+and_true : (b : Bool) → b && true ≡ b
+and_true true = refl
+and_true false = refl
 
 target_node : (n : Names) (a : List ℕ) (at : At) (w : Word) (parts : Pieces)
     → target_as n a w parts ≡ is_steady_target n a (Node at w parts)

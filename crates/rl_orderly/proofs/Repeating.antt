@@ -5,7 +5,6 @@ use Rattle.std.proofs.lemmas.Bool.{lt-leb}
 use Rattle.std.specs.BTreeSet.{BTreeSet, contains_by}
 use Rattle.std.specs.List.{list_all}
 use Rattle.std.specs.Ordering.{nat_cmp}
-use Rattle.rl_base.proofs.Bools.{or_false, or_true}
 use Rattle.rl_bindings.proofs.LookUps.{by_test}
 use Rattle.rl_code.proofs.Flagging.{eq_swapped}
 use Rattle.rl_model.specs.Code.{contains, flat}
@@ -16,6 +15,14 @@ use Rattle.rl_syntax.specs.Syntax.{Syntax}
 
 abbrev step_of : (once twice : Bool) → (n : ℕ) → (xs : List ℕ) → Bool → Bool
 step_of once twice n xs b = if b then repeats true (twice || once) n xs else repeats once twice n xs
+
+or_false : (b : Bool) → b || false ≡ b
+or_false true = refl
+or_false false = refl
+
+or_true : (b : Bool) → b || true ≡ true
+or_true true = refl
+or_true false = refl
 
 -- A number that stands before a list, and again at its head.
 pub again : (once twice more : ℕ → Bool) (n x : ℕ) (xs : List ℕ) → once x ≡ true → ((m : ℕ) → more m ≡ (twice m || nat_eq x m))
