@@ -9,7 +9,7 @@ ghost use Rattle.rl_base.specs.NameTables.{index_named, item_named};
 ghost use Rattle.rl_base.specs.Slots.{is_key};
 
 use crate::error::OutOfMemory;
-use crate::slots::{Slot, empty_slots, slot_index_of, slot_at};
+use crate::slots::{Slot, empty_slots, slot_at, slot_index_of};
 use std::alloc::Global;
 use std::collections::BTreeMap;
 use std::collections::btree_map::Entry;

@@ -14,9 +14,9 @@ use Rattle.rl_hir.specs.declared.instruction.InstructionKind.TheVariants as kind
 use Rattle.rl_hir.specs.declared.instruction.Place.{Place}
 use Rattle.rl_lower.specs.Params.{LowersParam, LowersRestParam}
 use Rattle.rl_lower_parts.specs.Patterns.{TakesDefault}
-use Rattle.rl_lower_patterns.proofs.PatternDerivations.{pattern_node}
-use Rattle.rl_lower_patterns.specs.Declarators.{IsDeclared}
-use Rattle.rl_lower_patterns.specs.Patterns.{HasPatternRoom}
+use Rattle.rl_lower_statements.proofs.PatternDerivations.{pattern_node}
+use Rattle.rl_lower_statements.specs.Declarators.{IsDeclared}
+use Rattle.rl_lower_statements.specs.Patterns.{HasPatternRoom}
 use Rattle.rl_lowered.proofs.Catches.{size_promoted}
 use Rattle.rl_lowered.proofs.Names.{names_promoted, names_temporary}
 use Rattle.rl_lowered.proofs.Sizes.{pattern_size}

@@ -18,8 +18,8 @@ use Rattle.rl_hir.specs.declared.instruction.InstructionKind.TheVariants as kind
 use Rattle.rl_hir.specs.declared.instruction.InstructionValue.TheVariants as values
 use Rattle.rl_hir.specs.declared.instruction.NonLocalBinding.{NonLocalBinding}
 use Rattle.rl_hir.specs.declared.instruction.Place.{Place}
-use Rattle.rl_lower_patterns.specs.Declarators.{IsDeclared}
-use Rattle.rl_lower_patterns.specs.Patterns.{HasPatternRoom}
+use Rattle.rl_lower_statements.specs.Declarators.{IsDeclared}
+use Rattle.rl_lower_statements.specs.Patterns.{HasPatternRoom}
 use Rattle.rl_lower_expressions.specs.Members.{LowersMember, key_of}
 use Rattle.rl_lower_expressions.specs.declared.member.LoweredMember.{LoweredMember}
 use Rattle.rl_lowered.proofs.Redeclared.{size_redeclared}

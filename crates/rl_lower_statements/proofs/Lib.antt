@@ -1,5 +1,8 @@
+pub mod DeclarationDerivations
 pub mod HeadDerivations
+pub mod ItemDerivations
 pub mod LoopDerivations
+pub mod PatternDerivations
 pub mod RoundDerivations
 pub mod StatementDerivations
 pub mod SwitchDerivations

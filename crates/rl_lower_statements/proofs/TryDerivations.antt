@@ -14,7 +14,7 @@ use Rattle.rl_hir.specs.declared.instruction.InstructionKind.TheVariants as kind
 use Rattle.rl_hir.specs.declared.instruction.InstructionValue.{InstructionValue}
 use Rattle.rl_hir.specs.declared.instruction.InstructionValue.TheVariants as values
 use Rattle.rl_hir.specs.declared.instruction.Place.{Place}
-use Rattle.rl_lower_patterns.specs.Declarators.{IsDeclared}
+use Rattle.rl_lower_statements.specs.Declarators.{IsDeclared}
 use Rattle.rl_lower_statements.specs.Tries.{IsStored, caught_try, noted_finalizer}
 use Rattle.rl_lowered.proofs.Arounds.{arounds_in_catch}
 use Rattle.rl_lowered.proofs.Blocks.{statement_blocks}

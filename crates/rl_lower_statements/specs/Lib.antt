@@ -1,2 +1,4 @@
 pub mod Cases
+pub mod Declarators
+pub mod Patterns
 pub mod Tries

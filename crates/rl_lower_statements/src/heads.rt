@@ -17,6 +17,8 @@ ghost use Rattle.rl_names.specs.Seen.{seen};
 ghost use Rattle.rl_names.specs.declared.names.Meaning.TheVariants.{Local};
 ghost use Rattle.rl_base.specs.Reserved.{is_reserved};
 
+use crate::declaration::resolve_declared;
+use crate::pattern::lower_pattern;
 use rl_ast::binding::{
     BindingIdentifier, BindingPattern, IdentifierReference, binding_identifier_view,
     binding_pattern_view, identifier_reference_view,
@@ -38,8 +40,6 @@ use rl_lower_expressions::target::lower_target;
 use rl_lower_parts::graph_builder::GraphBuilder;
 use rl_lower_parts::name::resolve_variable;
 use rl_lower_parts::temporary::{lower_value_to_temporary, refuse};
-use rl_lower_patterns::declaration::resolve_declared;
-use rl_lower_patterns::pattern::lower_pattern;
 use rl_names::names::{FunctionNames, Meaning};
 use rl_syntax::numbered::At;
 use rl_syntax::word::Word;

@@ -13,6 +13,7 @@ ghost use Rattle.rl_promises.specs.Jumps.{is_loop};
 ghost use Rattle.rl_promises.specs.Lowerable.{IsLowerable, IsLowerableIn};
 ghost use Rattle.rl_syntax.specs.Syntax.{nodes, syntax};
 
+use crate::declaration::lower_variables;
 use crate::heads::lower_loop_head;
 use crate::statement::lower_statement;
 use rl_ast::statement::{Statement, statement_view};
@@ -35,7 +36,6 @@ use rl_lower_expressions::expression::lower_expression;
 use rl_lower_parts::graph_builder::GraphBuilder;
 use rl_lower_parts::span::span_of;
 use rl_lower_parts::temporary::{lower_undefined, lower_value_to_temporary, refuse};
-use rl_lower_patterns::declaration::lower_variables;
 use rl_names::names::FunctionNames;
 use rl_syntax::numbered::{At, Numbered};
 use rl_syntax::word::Word;

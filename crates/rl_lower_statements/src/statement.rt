@@ -11,6 +11,7 @@ ghost use Rattle.rl_promises.specs.Lowerable.{AreLowerableIn, IsLowerable, IsLow
 ghost use Rattle.rl_names.specs.Seen.{seen};
 ghost use Rattle.rl_runs.specs.Moves.{returned_from};
 
+use crate::declaration::lower_variables;
 use crate::jumps::{lower_break, lower_continue};
 use crate::loops::{lower_labeled, lower_loop};
 use crate::switch::lower_switch;
@@ -32,7 +33,6 @@ use rl_lower_expressions::expression::lower_expression;
 use rl_lower_parts::graph_builder::GraphBuilder;
 use rl_lower_parts::span::span_of;
 use rl_lower_parts::temporary::{lower_undefined, lower_value_to_temporary, refuse};
-use rl_lower_patterns::declaration::lower_variables;
 use rl_names::names::FunctionNames;
 use rl_syntax::numbered::At;
 use std::alloc::Global;

@@ -13,6 +13,7 @@ ghost use Rattle.rl_names.specs.Seen.{seen};
 ghost use Rattle.rl_promises.specs.Lowerable.{DeclaresFree, IsLowerableIn};
 ghost use Rattle.rl_syntax.specs.Syntax.{Absent, nodes, syntax};
 
+use crate::declaration::resolve_declared;
 use crate::statement::lower_block;
 use rl_ast::binding::{
     BindingIdentifier, BindingPattern, binding_identifier_view, binding_pattern_view,
@@ -31,7 +32,6 @@ use rl_lower_parts::graph_builder::GraphBuilder;
 use rl_lower_parts::promoted::make_promoted;
 use rl_lower_parts::span::span_of;
 use rl_lower_parts::temporary::{lower_value_to_temporary, refuse};
-use rl_lower_patterns::declaration::resolve_declared;
 use rl_names::names::FunctionNames;
 use rl_syntax::numbered::At;
 use std::alloc::Global;

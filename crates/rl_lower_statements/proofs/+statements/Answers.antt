@@ -53,7 +53,7 @@ use Rattle.rl_lower_statements.proofs.SwitchDerivations.{cases_room, switch_told
 use Rattle.rl_frames.proofs.SwitchNotes.{switch_begun_size}
 use Rattle.rl_lower_statements.specs.Cases.{FramesBehind, joined}
 use Rattle.rl_ast.specs.BindingViews.{seen_binding_identifier}
-use Rattle.rl_lower_patterns.proofs.DeclarationDerivations.{annotation_fits}
+use Rattle.rl_lower_statements.proofs.DeclarationDerivations.{annotation_fits}
 use Rattle.rl_lower_statements.proofs.+statements.Goals as goal
 
 pub statement::lower_statement-returns-in-Empty-clause-lowered : goal.statement::lower_statement-returns-in-Empty-clause-lowered

@@ -1,7 +1,7 @@
 use Rattle.rl_builder.specs.Builder.{state_of}
 use Rattle.rl_syntax.specs.Syntax.{nodes, syntax}
 use Rattle.rl_lower.proofs.ParamDerivations.{apart_param, promoted_named, promoted_room}
-use Rattle.rl_lower_patterns.proofs.PatternDerivations.{pattern_node}
+use Rattle.rl_lower_statements.proofs.PatternDerivations.{pattern_node}
 use Rattle.rl_lower.proofs.params.lower_apart.Goals as goal
 
 pub lower_pattern-requires-clause-names : goal.lower_pattern-requires-clause-names

@@ -1,5 +1,5 @@
 use Rattle.rl_syntax.specs.Syntax.{syntax}
-use Rattle.rl_lower_patterns.proofs.DeclarationDerivations.{annotation_fits}
+use Rattle.rl_lower_statements.proofs.DeclarationDerivations.{annotation_fits}
 use Rattle.rl_lower.proofs.ParamDerivations.{named_param}
 use Rattle.rl_lower.proofs.params.lower_named.Goals as goal
 

@@ -1,5 +1,5 @@
 use Rattle.rl_builder.specs.Builder.{state_of}
-use Rattle.rl_lower_patterns.proofs.ItemDerivations.{rest_may}
+use Rattle.rl_lower_statements.proofs.ItemDerivations.{rest_may}
 use Rattle.rl_lower.proofs.ParamDerivations.{rest_param_ok, rest_room, temporary_named}
 use Rattle.rl_names.specs.Seen.{seen}
 use Rattle.rl_lower.proofs.params.lower_rest.Goals as goal

@@ -1,6 +1,6 @@
 use Rattle.rl_grammar.specs.Fields.{maybe}
 use Rattle.rl_syntax.specs.Syntax.{syntax}
-use Rattle.rl_lower_patterns.proofs.DeclarationDerivations.{annotation_fits, declared_within}
+use Rattle.rl_lower_statements.proofs.DeclarationDerivations.{annotation_fits, declared_within}
 use Rattle.rl_lower_statements.proofs.HeadDerivations.{declared_head_ok, declared_room}
 use Rattle.rl_lower_statements.proofs.heads.lower_declared_head.Goals as goal
 

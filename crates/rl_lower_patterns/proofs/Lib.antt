@@ -1,3 +1,0 @@
-pub mod DeclarationDerivations
-pub mod ItemDerivations
-pub mod PatternDerivations

@@ -1,8 +1,0 @@
-use Rattle.rl_syntax.specs.Syntax.{syntax}
-use Rattle.rl_lower_patterns.proofs.DeclarationDerivations.{annotation_fits, declared_ok}
-use Rattle.rl_lower_patterns.proofs.declaration.lower_declared.Goals as goal
-
-pub returns-clause-lowered : goal.returns-clause-lowered
-returns-clause-lowered g c =
-    declared_ok _ (annotation_fits (λ t. syntax t.tree.now) c.args.bind.now.annotation (λ t. t.fit)) c.in_ok-identifier.ensures.found
-    c.in_ok-lower_value_to_temporary.ensures.state

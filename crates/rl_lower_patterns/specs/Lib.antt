@@ -1,2 +1,0 @@
-pub mod Declarators
-pub mod Patterns

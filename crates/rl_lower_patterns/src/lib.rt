@@ -1,6 +1,0 @@
-//! Declarations of variables and binding patterns to instructions.
-#![tactic(auto)]
-
-pub mod declaration;
-pub mod pattern;
-mod pattern_items;
