@@ -37,7 +37,8 @@ use Rattle.rl_names.specs.Names.{Names}
 use Rattle.rl_order.proofs.PrunedBlocks.{StaysPruned, pruned_all, pruned_table_all}
 use Rattle.rl_order.specs.Numbering.{orders_of}
 use Rattle.rl_promises.specs.Spans.{AreSpanned, AreSpannedIdentifiers, IsSpanOf, IsSpanned, IsSpannedInstruction}
-use Rattle.rl_promises.specs.Spans.{IsSpannedTerminal, KnowsSpans}
+use Rattle.rl_promises.specs.KnownSpans.{KnowsSpans}
+use Rattle.rl_promises.specs.Spans.{IsSpannedTerminal}
 use Rattle.rl_syntax.specs.Syntax.{Syntax, Node, Listed, Pieces, End, Then, span_of}
 use Rattle.rl_syntax.specs.declared.word.Word.TheVariants as word
 

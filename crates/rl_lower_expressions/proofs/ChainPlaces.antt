@@ -1,6 +1,6 @@
 -- Expressions that have no optional link on a spine of their own are lowerable below a link and off the spine of a chain alike.
-use Rattle.std.proofs.Common.{◌≡◌, ◌||◌, true, false, Bool, refl, sym, true≢false}
-use Rattle.std.proofs.lemmas.Bool.{and_parts}
+use Rattle.std.proofs.Common.{◌≡◌, true, false, refl, sym, true≢false}
+use Rattle.std.proofs.lemmas.Bool.{and_parts, or_parts}
 use Rattle.rl_grammar.specs.Grammar.{fits}
 use Rattle.rl_grammar.specs.declared.kind.Field.TheVariants as field
 use Rattle.rl_grammar.specs.declared.kind.Kind.TheVariants as kind
@@ -13,37 +13,33 @@ use Rattle.rl_rules.specs.Pieces.{is_yes}
 use Rattle.rl_syntax.specs.declared.word.Word.TheVariants as word
 use Rattle.rl_syntax.specs.Syntax.{Syntax, Node, Listed, Said, Flag, End, Then}
 
-no_either : (a b : Bool) → (a || b) ≡ false → (a ≡ false) × (b ≡ false)
-no_either true b unlinked = absurd (true≢false unlinked)
-no_either false b unlinked = (refl, unlinked)
-
 -- An expression that has no optional link on its own spine is lowerable off the spine of a chain as it is below a link.
 pub off_spine : (names : Names) (e : Syntax) → fits (field.One kind.Expression) e ≡ true → has_optional e ≡ false
     → IsLowerableAt names Below e → IsLowerable names e
 off_spine names (Node at word.Member (Then optional (Then object rest))) fit unlinked may =
     let front = and_parts (fits (field.One kind.Expression) object) _ (and_parts (fits (field.One kind.Flag) optional) _ fit).1 in
-    let none = no_either (is_yes optional) (has_optional object) unlinked in
+    let none = or_parts (is_yes optional) (has_optional object) unlinked in
     (none.0, (may.0, (off_spine names object front.0 none.1 may.1, may.2)))
 off_spine names (Node at word.Member (Then optional End)) fit unlinked may =
     absurd (true≢false (sym (and_parts (fits (field.One kind.Flag) optional) _ fit).1))
 off_spine names (Node at word.Member End) fit unlinked may = absurd (true≢false (sym fit))
 off_spine names (Node at word.Index (Then optional (Then object rest))) fit unlinked may =
     let front = and_parts (fits (field.One kind.Expression) object) _ (and_parts (fits (field.One kind.Flag) optional) _ fit).1 in
-    let none = no_either (is_yes optional) (has_optional object) unlinked in
+    let none = or_parts (is_yes optional) (has_optional object) unlinked in
     (none.0, (may.0, (off_spine names object front.0 none.1 may.1, may.2)))
 off_spine names (Node at word.Index (Then optional End)) fit unlinked may =
     absurd (true≢false (sym (and_parts (fits (field.One kind.Flag) optional) _ fit).1))
 off_spine names (Node at word.Index End) fit unlinked may = absurd (true≢false (sym fit))
 off_spine names (Node at word.Privatemember (Then optional (Then object rest))) fit unlinked may =
     let front = and_parts (fits (field.One kind.Expression) object) _ (and_parts (fits (field.One kind.Flag) optional) _ fit).1 in
-    let none = no_either (is_yes optional) (has_optional object) unlinked in
+    let none = or_parts (is_yes optional) (has_optional object) unlinked in
     (none.0, (may.0, (off_spine names object front.0 none.1 may.1, may.2)))
 off_spine names (Node at word.Privatemember (Then optional End)) fit unlinked may =
     absurd (true≢false (sym (and_parts (fits (field.One kind.Flag) optional) _ fit).1))
 off_spine names (Node at word.Privatemember End) fit unlinked may = absurd (true≢false (sym fit))
 off_spine names (Node at word.Call (Then optional (Then callee rest))) fit unlinked may =
     let front = and_parts (fits (field.One kind.Expression) callee) _ (and_parts (fits (field.One kind.Flag) optional) _ fit).1 in
-    let none = no_either (is_yes optional) (has_optional callee) unlinked in
+    let none = or_parts (is_yes optional) (has_optional callee) unlinked in
     (none.0, (may.0, (off_spine names callee front.0 none.1 may.1, may.2)))
 off_spine names (Node at word.Call (Then optional End)) fit unlinked may =
     absurd (true≢false (sym (and_parts (fits (field.One kind.Flag) optional) _ fit).1))

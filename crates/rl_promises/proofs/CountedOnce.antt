@@ -1,6 +1,7 @@
 -- Each counted node of a covered function is one node of its tree: no two nodes end at one byte.
 use Rattle.std.proofs.Common.{◌≡◌, ◌⊎◌, inl, inr, ℕ, ◌+◌, ◌<◌, ◌≤◌, nat_eq, Bool, true, false, true≢false, ◌&&◌, if◌then◌else◌, Option}
 use Rattle.std.proofs.Common.{Some, None, List, [], ◌∷◌, codes, ◌++◌, All, length, length-append, refl, sym, ap, ◌∙◌, subst, arith, eq-eqb}
+use Rattle.std.proofs.lemmas.Bool.{and_right}
 use Rattle.std.specs.List.{AllByRecursion}
 use Rattle.std.specs.Str.{bytes_eq}
 use Rattle.std.proofs.lemmas.Bool.Decides.{eqb_tells}
@@ -53,10 +54,6 @@ node_end at w parts from placed =
     let end = placed.0.end in
     omega (arith, both, end)
 
-and_false : (b : Bool) → b && false ≡ false
-and_false true = refl
-and_false false = refl
-
 -- The end of the instruction of a node.
 abbrev held_end : Word → Pieces → At → ℕ
 held_end w parts at = (held_span w parts at.span).end
@@ -71,8 +68,8 @@ tally_none key o span other = elim (eqb_tells span.end key.span.end) [
   | inl same ↦ absurd (other same.1)
   | inr apart ↦
       ap (λ (b : Bool). if is_among key.kinds o && (nat_eq span.start key.span.start && b) then 1 else 0) apart.0
-      ∙ ap (λ (b : Bool). if is_among key.kinds o && b then 1 else 0) (and_false (nat_eq span.start key.span.start))
-      ∙ ap (λ (b : Bool). if b then 1 else 0) (and_false (is_among key.kinds o))
+      ∙ ap (λ (b : Bool). if is_among key.kinds o && b then 1 else 0) (and_right (nat_eq span.start key.span.start) false refl)
+      ∙ ap (λ (b : Bool). if b then 1 else 0) (and_right (is_among key.kinds o) false refl)
 ]
 
 -- A node whose instruction is not counted.

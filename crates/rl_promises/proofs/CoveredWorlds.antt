@@ -1,5 +1,6 @@
 -- A function that lowers no inner function shares no variable: neither does its source, nor its graph.
 use Rattle.std.proofs.Common.{◌≡◌, ℕ, Bool, true, false, true≢false, ◌&&◌, not, nat_eq, if◌then◌else◌, Option, Some, None, List, [], ◌∷◌, ◌++◌, filter, refl, sym, ap, ◌∙◌, eq-eqb}
+use Rattle.std.proofs.lemmas.Bool.{and_right}
 use Rattle.std.specs.List.{list_any}
 use Rattle.rl_base.specs.declared.ids.SymbolId.{SymbolId}
 use Rattle.rl_hir.specs.Pairs.{identifier_of}
@@ -99,17 +100,13 @@ others_none f covered =
     is_own : Syntax → Bool
     is_own other = nat_eq (at_of other).id.0 (at_of f).id.0
 
-and_false : (b : Bool) → b && false ≡ false
-and_false true = refl
-and_false false = refl
-
 pub source_alone : (names : Names) (count : ℕ) (stored : ℕ → Option SymbolId) (f : Syntax) → IsCoveredFunction f
     → SharesNothing (world_of names count stored f f)
 source_alone names count stored f covered = record {
   opens = λ symbol. ap (λ (l : List Syntax). list_any (assigns symbol) l) (others_none f covered);
   keeps = filter_none (is_kept names stored f f) (below count) (λ symbol.
       ap (λ (l : List Syntax). names_symbol names stored f symbol && list_any (sees symbol) l) (others_none f covered)
-      ∙ and_false (names_symbol names stored f symbol));
+      ∙ and_right (names_symbol names stored f symbol) false refl);
 }
   where
     assigns : ℕ → Syntax → Bool

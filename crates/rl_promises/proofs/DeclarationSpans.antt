@@ -34,7 +34,8 @@ use Rattle.rl_names.specs.Functions.{parameters_of}
 use Rattle.rl_names.specs.Names.{Names, function_names}
 use Rattle.rl_promises.proofs.LocalVariables.{has_sited}
 use Rattle.rl_promises.specs.Covered.{IsCoveredFunction}
-use Rattle.rl_promises.specs.Spans.{IsSpanAmong, IsSpanOf, KnowsSpans}
+use Rattle.rl_promises.specs.KnownSpans.{KnowsSpans}
+use Rattle.rl_promises.specs.Spans.{IsSpanAmong, IsSpanOf}
 use Rattle.rl_resolver.specs.Kinds.{has_identifier}
 use Rattle.rl_resolver.specs.Lookups.{identified}
 use Rattle.rl_semantic.specs.Items.{of_item}

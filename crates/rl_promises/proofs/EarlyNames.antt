@@ -3,6 +3,7 @@
 use Rattle.std.proofs.Common.{◌≡◌, ◌<◌, ◌≢◌, ℕ, Bool, true, false, true≢false, ◌&&◌, ◌||◌, not, nat_eq, nat_le, nat_lt, eqb-true, leb-true}
 use Rattle.std.proofs.Common.{ltb-true, if◌then◌else◌, inl, inr, Option, Some, None, List, [], ◌++◌, slice_get, unwrap_or, refl, sym, ap}
 use Rattle.std.proofs.Common.{subst, ◌∙◌, arith}
+use Rattle.std.proofs.lemmas.Bool.{and_parts}
 use Rattle.std.specs.List.{AllByRecursion, list_any}
 use Rattle.rl_ast.proofs.MarkedFunctions.{Inside, InsideOf, IsMarked, first_found, inside_placed, marked_fits}
 use Rattle.rl_ast.specs.Marked.{first, is_marked, marked_functions}
@@ -35,7 +36,6 @@ use Rattle.rl_names.specs.Names.{Names}
 use Rattle.rl_promises.proofs.FunctionKinds.{FunctionKinds, function_kinds, unhoisted}
 use Rattle.rl_promises.proofs.CoveredWorlds.{body_covered}
 use Rattle.rl_promises.proofs.NoContexts.{no_context, no_inner_use, none_passes}
-use Rattle.rl_promises.proofs.OrderlyCalls.{both_true}
 use Rattle.rl_promises.proofs.VariableKinds.{IsPlainKind, declared_within, only_plain}
 use Rattle.rl_promises.proofs.VariableTrees.{HasVariables, HaveVariables, inside_through, is_named}
 use Rattle.rl_promises.specs.Covered.{AreCovered, IsCovered, IsCoveredFunction}
@@ -181,7 +181,7 @@ module _ (u : Syntax) (placed : IsPlaced outset u) (at : At) (w : Word) (ps : Pi
       by_test : (x : Bool) → is_around first.node.0 (Node bt word.Var qs) ≡ x → x ≡ false
       by_test false is = refl
       by_test true is =
-          let both = both_true (nat_le bt.id.0 first.node.0) (nat_lt first.node.0 bt.end.0) is in
+          let both = and_parts (nat_le bt.id.0 first.node.0) (nat_lt first.node.0 bt.end.0) is in
           let inside_u = inside_through (Node bt word.Var qs) (Node at w ps) (inr within) u there in
           let d = declared_within bt word.Var qs (names_in u) u top outset first placed inside_u has_by_nodes
           (leb-true bt.id.0 first.node.0 both.0, ltb-true first.node.0 bt.end.0 both.1) in

@@ -1,6 +1,6 @@
 -- The first declaration of a symbol, the one by which it is known: where it stands, and that it is none of a type if another is none.
 use Rattle.std.proofs.Common.{◌≡◌, ℕ, ◌+◌, zero, suc, Bool, true, false, true≢false, cond, ◌&&◌, ◌||◌, if◌then◌else◌, nat_eq, eq-eqb, ◌⊎◌, inl, inr, Option, Some, None, is_some, List, [], ◌∷◌, ◌++◌, slice_get, append_assoc, refl, sym, ap, subst, ◌∙◌, arith}
-use Rattle.std.proofs.lemmas.Bool.{or_parts}
+use Rattle.std.proofs.lemmas.Bool.{or_parts, or_right}
 use Rattle.std.specs.List.{AllByRecursion, list_any, position_from}
 use Rattle.rl_bindings.proofs.Checks.{knows-add}
 use Rattle.rl_bindings.proofs.LookUps.{by_test}
@@ -43,9 +43,6 @@ all_append : (bs cs symbols : List Bound) → add_all symbols (bs ++ cs) ≡ add
 all_append [] cs symbols = refl
 all_append (b ∷ bs) cs symbols = all_append bs cs (add symbols b)
 
-or_true : (a b : Bool) → b ≡ true → (a || b) ≡ true
-or_true true b is = refl
-or_true false b is = is
 
 -- The number that a symbol has.
 record HasNumber (symbols : List Bound) (b : Bound) : Type 0 where
@@ -61,7 +58,7 @@ has_number [] symbols b has = absurd has
 has_number (c ∷ bs) symbols b (inl is) =
     let known : knows (add symbols b) (is_own b.kind) b.scope.0 b.name ≡ true =
     knows-add symbols b (is_own b.kind) b.scope.0 b.name
-    ∙ or_true (knows symbols (is_own b.kind) b.scope.0 b.name) (is_at (is_own b.kind) b.scope.0 b.name b) (at_self b) in
+    ∙ or_right (knows symbols (is_own b.kind) b.scope.0 b.name) (is_at (is_own b.kind) b.scope.0 b.name b) (at_self b) in
     let n = some_number (add symbols b) b (number_of_bound (add symbols b) b) refl known in
     subst (λ d. HasNumber (add_all (add symbols d) bs) b) is
     (record { number = n.number; is = number_kept bs (add symbols b) (is_own b.kind) b.scope.0 b.name n.number n.is })
@@ -256,7 +253,7 @@ first_value all b none has value s = by_test (is_type s.first.kind)
       | inr apart ↦ elim apart [
         | inl one ↦ true≢false (sym (type_clash s.first b s.same_scope s.same_name (ap (λ x. x || is_type b.kind) type)) ∙ one)
         | inr other ↦ true≢false
-            (sym (type_clash b s.first (sym s.same_scope) (sym s.same_name) (or_true (is_type b.kind) (is_type s.first.kind) type)) ∙ other)
+            (sym (type_clash b s.first (sym s.same_scope) (sym s.same_name) (or_right (is_type b.kind) (is_type s.first.kind) type)) ∙ other)
       ]
     ]))
     (λ is. is)

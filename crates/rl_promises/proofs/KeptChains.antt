@@ -1,7 +1,7 @@
 -- The rule on optional chains (B6), as it holds of the trees of a function whose unit keeps it.
-use Rattle.std.proofs.Common.{◌≡◌, ℕ, ◌+◌, ◌≤◌, nat_eq, eqb-true, Bool, true, false, not, ◌&&◌, if◌then◌else◌, true≢false, Option, Some, None}
+use Rattle.std.proofs.Common.{◌≡◌, ℕ, ◌+◌, ◌≤◌, nat_eq, eqb-true, Bool, true, false, not, ◌&&◌, if◌then◌else◌, Option, Some, None}
 use Rattle.std.proofs.Common.{List, [], ◌∷◌, refl, ap, sym, subst, ◌∙◌, arith}
-use Rattle.std.proofs.lemmas.Bool.{and_parts}
+use Rattle.std.proofs.lemmas.Bool.{and_parts, not-true}
 use Rattle.std.specs.List.{AllByRecursion}
 use Rattle.rl_ast.specs.Marked.{first, is_marked, marked_among, marked_functions}
 use Rattle.rl_bindings.specs.Tables as names
@@ -34,10 +34,6 @@ on_spine Below = true
 
 three_true : (a b c : Bool) → a && (b && c) ≡ true → (a ≡ true) × (b ≡ true) × (c ≡ true)
 three_true a b c h = let first = and_parts a (b && c) h in let others = and_parts b c first.1 in (first.0, others.0, others.1)
-
-not_true : (b : Bool) → not b ≡ true → b ≡ false
-not_true true h = absurd (true≢false (sym h))
-not_true false h = refl
 
 -- The parts behind the object or callee of a link are off the spine.
 later_index : (i : ℕ) → 2 ≤ i → nat_eq i 1 ≡ false
@@ -73,16 +69,16 @@ mutual
   chained_at Below (Node at word.Chain End) kept = tt
   chained_at Off (Node at word.Member parts) kept =
       let both = and_parts (not (first_is is_yes parts)) (passing_parts false word.Member 0 parts) kept in
-      (not_true (first_is is_yes parts) both.0, parts_chained false word.Member 0 parts (λ i le. refl) both.1)
+      (not-true (first_is is_yes parts) both.0, parts_chained false word.Member 0 parts (λ i le. refl) both.1)
   chained_at Off (Node at word.Index parts) kept =
       let both = and_parts (not (first_is is_yes parts)) (passing_parts false word.Index 0 parts) kept in
-      (not_true (first_is is_yes parts) both.0, parts_chained false word.Index 0 parts (λ i le. refl) both.1)
+      (not-true (first_is is_yes parts) both.0, parts_chained false word.Index 0 parts (λ i le. refl) both.1)
   chained_at Off (Node at word.Privatemember parts) kept =
       let both = and_parts (not (first_is is_yes parts)) (passing_parts false word.Privatemember 0 parts) kept in
-      (not_true (first_is is_yes parts) both.0, parts_chained false word.Privatemember 0 parts (λ i le. refl) both.1)
+      (not-true (first_is is_yes parts) both.0, parts_chained false word.Privatemember 0 parts (λ i le. refl) both.1)
   chained_at Off (Node at word.Call parts) kept =
       let both = and_parts (not (first_is is_yes parts)) (passing_parts false word.Call 0 parts) kept in
-      (not_true (first_is is_yes parts) both.0, parts_chained false word.Call 0 parts (λ i le. refl) both.1)
+      (not-true (first_is is_yes parts) both.0, parts_chained false word.Call 0 parts (λ i le. refl) both.1)
   chained_at Off (Node at w parts) kept = parts_chained false w 0 parts (λ i le. refl) kept
   chained_at place (Node at word.Member (Then optional (Then object rest))) kept =
       linked word.Member optional object rest (chained_at Off optional) (chained_at Below object)

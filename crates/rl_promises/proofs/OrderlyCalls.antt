@@ -1,5 +1,6 @@
 -- Calls and tagged templates of a covered function that is orderly: as it is written and as it is ported they lend one receiver.
 use Rattle.std.proofs.Common.{◌≡◌, ℕ, Bool, true, false, true≢false, ◌&&◌, ◌||◌, nat_eq, not, None, List, [], ◌∷◌, ◌++◌, refl, sym, ap, ◌∙◌}
+use Rattle.std.proofs.lemmas.Bool.{and_parts, not-true}
 use Rattle.std.proofs.lemmas.List.Folds.{list_all-append}
 use Rattle.std.specs.List.{AllByRecursion, list_all}
 use Rattle.rl_model.specs.Code.{assigned_at, assigned_in, code, code_among, code_of, contains, first_code, flat, inner_functions}
@@ -100,18 +101,10 @@ call_lends names assigned at (Then optional (Then callee parts)) orderly =
     property_or_none (lends callee) (is_link callee) (is_link_inside callee) (lends_none callee) orderly
 call_lends names assigned at _ orderly = refl
 
-not_true : (b : Bool) → not b ≡ true → b ≡ false
-not_true true h = absurd (true≢false (sym h))
-not_true false h = refl
-
 tag_lends : (names : Names) (assigned : List ℕ) (at : At) (parts : Pieces)
     → is_orderly_node names assigned (Node at word.Tagged parts) ≡ true → lends_at word.Tagged parts ≡ false
-tag_lends names assigned at (Then tag parts) orderly = lends_none tag (not_true (is_link_inside tag) orderly)
+tag_lends names assigned at (Then tag parts) orderly = lends_none tag (not-true (is_link_inside tag) orderly)
 tag_lends names assigned at End orderly = refl
-
-pub both_true : (a b : Bool) → a && b ≡ true → (a ≡ true) × (b ≡ true)
-both_true true b h = (refl, h)
-both_true false b h = absurd (true≢false (sym h))
 
 or_either : (a b c : Bool) → (b ≡ true → c ≡ true) → a || b ≡ true → a || c ≡ true
 or_either true b c more h = refl
@@ -182,7 +175,7 @@ module _ (names : Names) (assigned : List ℕ) where
   itself at word.Classexpr parts covered orderly assigns formed = absurd (true≢false (sym covered))
   itself at word.Fundecl parts covered orderly assigns formed = absurd (true≢false (sym covered))
   itself at w parts covered orderly assigns formed =
-      let own = (both_true (orderly_node (Node at w parts)) _ orderly).0 in
+      let own = (and_parts (orderly_node (Node at w parts)) _ orderly).0 in
       record { lends = node_lends at w parts own; orderly = own; assigns = assigns.0; formed = formed }
 
   -- The code of the parts of a covered node, which is no function.
@@ -192,14 +185,14 @@ module _ (names : Names) (assigned : List ℕ) where
       → (list_all orderly_node (code_among parts) ≡ true → Assigning (code_among parts) → All) → Within w First All
   within at word.Type parts First All covered orderly assigns one each = tt
   within at word.Instantiate parts First All covered orderly assigns one each =
-      one (both_true (orderly_node (Node at word.Instantiate parts)) (list_all orderly_node (first_code parts)) orderly).1 assigns.1
+      one (and_parts (orderly_node (Node at word.Instantiate parts)) (list_all orderly_node (first_code parts)) orderly).1 assigns.1
   within at word.Arrow parts First All covered orderly assigns one each = absurd (true≢false (sym covered))
   within at word.Funexpr parts First All covered orderly assigns one each = absurd (true≢false (sym covered))
   within at word.Fundecl parts First All covered orderly assigns one each = absurd (true≢false (sym covered))
   within at word.Classdecl parts First All covered orderly assigns one each = absurd (true≢false (sym covered))
   within at word.Classexpr parts First All covered orderly assigns one each = absurd (true≢false (sym covered))
   within at w parts First All covered orderly assigns one each =
-      each (both_true (orderly_node (Node at w parts)) (list_all orderly_node (code_among parts)) orderly).1 assigns.1
+      each (and_parts (orderly_node (Node at w parts)) (list_all orderly_node (code_among parts)) orderly).1 assigns.1
 
   mutual
     lends_in : (e : Syntax) → IsCovered e → list_all orderly_node (code e) ≡ true → Assigning (code e) → IsFormed e → Lends e
@@ -226,7 +219,7 @@ module _ (names : Names) (assigned : List ℕ) where
         → LendAlike names assigned parts
     lends_among End covered orderly assigns formed = tt
     lends_among (Then part parts) covered orderly assigns formed =
-        let both = both_true (list_all orderly_node (code part)) (list_all orderly_node (code_among parts))
+        let both = and_parts (list_all orderly_node (code part)) (list_all orderly_node (code_among parts))
         (sym (list_all-append orderly_node (code part) (code_among parts)) ∙ orderly) in (
           lends_in part covered.0 both.0 (each_left _ (code part) (code_among parts) assigns) formed.0,
           lends_among parts covered.1 both.1 (each_right _ (code part) (code_among parts) assigns) formed.1,
@@ -244,9 +237,9 @@ pub function_lends : (u : Syntax) → IsCoveredFunction (marked u) → IsFormed 
 function_lends u covered formed also orderly =
     let names : Names = names_of u in
     let assigned : List ℕ = assigned_of u in
-    let nodes : list_all (is_orderly_node names assigned) (code_of (marked u)) ≡ true = (both_true _ _ (both_true _ _ orderly).0).0 in
+    let nodes : list_all (is_orderly_node names assigned) (code_of (marked u)) ≡ true = (and_parts _ _ (and_parts _ _ orderly).0).0 in
     let parted = list_all-append (is_orderly_node names assigned) (code (params_in (marked u))) (code (body_in (marked u))) in
-    let both = both_true _ _ (sym parted ∙ nodes) in
+    let both = and_parts _ _ (sym parted ∙ nodes) in
     let assigns = assigning names assigned (code_of (marked u))
     (contains_left (assigned_in names (marked u)) (flat (assigned_in names) (inner_functions (marked u)))) in (
       lends_in names assigned (params_in (marked u)) (params_covered (marked u) covered) both.0

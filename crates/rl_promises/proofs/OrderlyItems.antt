@@ -1,11 +1,12 @@
 -- Items of orderly patterns, by their parts: a name right of a default or a nested part stands once, and no default there names it.
 use Rattle.std.proofs.Common.{◌≡◌, ℕ, Bool, true, false, true≢false, ◌&&◌, ◌||◌, not, nat_eq, nat_le, if◌then◌else◌, ◌≤◌, ◌+◌, List, []}
 use Rattle.std.proofs.Common.{◌∷◌, ◌++◌, length, filter, append_assoc, eqb-true, leb-true, refl, sym, ap, subst, ◌∙◌, arith}
+use Rattle.std.proofs.lemmas.Bool.{and_parts, not-true}
 use Rattle.std.specs.List.{list_all}
 use Rattle.rl_model.specs.Code.{contains, flat}
 use Rattle.rl_model.specs.Orderly.{Item, Binds, Passes, defaults_in, is_orderly_pattern, items_of, right_of, symbols_in, used_in}
 use Rattle.rl_names.specs.Names.{Names}
-use Rattle.rl_promises.proofs.OrderlyCalls.{both_true, contains_left, contains_right}
+use Rattle.rl_promises.proofs.OrderlyCalls.{contains_left, contains_right}
 use Rattle.rl_promises.proofs.ReadNames.{flat_left, flat_right}
 use Rattle.rl_syntax.specs.Syntax.{Syntax}
 
@@ -186,14 +187,10 @@ module _ (names : Names) (opens : ℕ → Bool) (tried : Bool) (pattern : Syntax
       not tried && not (opens symbol) && not (contains (flat (used_in names) (defaults_in pattern)) symbol)
       && nat_le (times symbol (symbols_in (items_of names pattern))) 1
 
-  not_true : (b : Bool) → not b ≡ true → b ≡ false
-  not_true true h = absurd (true≢false (sym h))
-  not_true false h = refl
-
   one_of : (f : ℕ → Bool) (xs : List ℕ) (symbol : ℕ) → list_all f xs ≡ true → contains xs symbol ≡ true → f symbol ≡ true
   one_of f [] symbol all there = absurd (true≢false (sym there))
   one_of f (x ∷ xs) symbol all there =
-      let both = both_true (f x) (list_all f xs) all in by_test (one_of f xs symbol both.1) (nat_eq symbol x) refl both.0 there
+      let both = and_parts (f x) (list_all f xs) all in by_test (one_of f xs symbol both.1) (nat_eq symbol x) refl both.0 there
     where
       by_test : (contains xs symbol ≡ true → f symbol ≡ true) → (b : Bool) → nat_eq symbol x ≡ b → f x ≡ true
           → b || contains xs symbol ≡ true → f symbol ≡ true
@@ -202,8 +199,8 @@ module _ (names : Names) (opens : ℕ → Bool) (tried : Bool) (pattern : Syntax
 
   pub fine_of : is_orderly_pattern names opens tried pattern ≡ true → AreFine names tried (items_of names pattern) (defaults_in pattern)
   fine_of orderly = record {
-    untried = λ symbol there. not_true tried (parts symbol there).0;
-    unused = λ symbol there. not_true _ (parts symbol there).1;
+    untried = λ symbol there. not-true tried (parts symbol there).0;
+    unused = λ symbol there. not-true _ (parts symbol there).1;
     once = λ symbol there. leb-true _ _ (parts symbol there).2;
   }
     where
@@ -212,7 +209,7 @@ module _ (names : Names) (opens : ℕ → Bool) (tried : Bool) (pattern : Syntax
           × (nat_le (times symbol (symbols_in (items_of names pattern))) 1 ≡ true)
       parts symbol there =
           let all = one_of holds (right_of (items_of names pattern)) symbol orderly there in
-          let last = both_true (not tried && not (opens symbol) && not (contains (flat (used_in names) (defaults_in pattern)) symbol)) _
+          let last = and_parts (not tried && not (opens symbol) && not (contains (flat (used_in names) (defaults_in pattern)) symbol)) _
           all in
-          let third = both_true (not tried && not (opens symbol)) _ last.0 in
-          ((both_true (not tried) _ third.0).0, third.1, last.1)
+          let third = and_parts (not tried && not (opens symbol)) _ last.0 in
+          ((and_parts (not tried) _ third.0).0, third.1, last.1)

@@ -1,5 +1,6 @@
 -- The binding patterns in the code of an orderly function: each is orderly where it stands.
 use Rattle.std.proofs.Common.{◌≡◌, ℕ, Bool, true, false, List, ◌++◌, None, sym, ◌∙◌}
+use Rattle.std.proofs.lemmas.Bool.{and_parts}
 use Rattle.std.proofs.lemmas.List.Folds.{list_all-append}
 use Rattle.std.specs.List.{list_all}
 use Rattle.rl_model.specs.Code.{is_open}
@@ -9,7 +10,6 @@ use Rattle.rl_model.specs.Source.{is_orderly}
 use Rattle.rl_model.specs.Units.{names_of}
 use Rattle.rl_names.specs.Functions.{body_in, params_in}
 use Rattle.rl_names.specs.Names.{Names}
-use Rattle.rl_promises.proofs.OrderlyCalls.{both_true}
 use Rattle.rl_syntax.specs.Syntax.{Syntax, Node, Listed, Said, Count, Flag, Absent, Pieces, End, Then}
 use Rattle.rl_syntax.specs.declared.word.Word.TheVariants as word
 
@@ -44,7 +44,7 @@ module _ (names : Names) (opens : ℕ → Bool) where
 
   in_both : (xs ys : List (Bool × Syntax)) → list_all is_fine (xs ++ ys) ≡ true
       → (list_all is_fine xs ≡ true) × (list_all is_fine ys ≡ true)
-  in_both xs ys all = both_true (list_all is_fine xs) (list_all is_fine ys) (sym (list_all-append is_fine xs ys) ∙ all)
+  in_both xs ys all = and_parts (list_all is_fine xs) (list_all is_fine ys) (sym (list_all-append is_fine xs ys) ∙ all)
 
   mutual
     pub orderly_in : (tried : Bool) (e : Syntax) → list_all is_fine (patterns_in tried e) ≡ true → HasOrderly tried e
@@ -52,10 +52,10 @@ module _ (names : Names) (opens : ℕ → Bool) where
         let both = in_both (patterns_in true block) (patterns_among tried parts) all in
         (orderly_in true block both.0, orderly_among tried parts both.1)
     orderly_in tried (Node at word.Declarator (Then pattern parts)) all =
-        let both = both_true (is_fine (tried, pattern)) (list_all is_fine (patterns_among tried parts)) all in
+        let both = and_parts (is_fine (tried, pattern)) (list_all is_fine (patterns_among tried parts)) all in
         (both.0, orderly_among tried parts both.1)
     orderly_in tried (Node at word.Catch (Then pattern parts)) all =
-        let both = both_true (is_fine (tried, pattern)) (list_all is_fine (patterns_among tried parts)) all in
+        let both = and_parts (is_fine (tried, pattern)) (list_all is_fine (patterns_among tried parts)) all in
         (both.0, orderly_among tried parts both.1)
     orderly_in tried (Node at word.Arrow parts) all = tt
     orderly_in tried (Node at word.Funexpr parts) all = tt
@@ -80,6 +80,6 @@ pub function_orderly : (u : Syntax) → is_orderly u None ≡ true
     → (is_orderly_pattern (names_of u) (is_open (names_of u) (marked u) (marked u)) false (params_in (marked u)) ≡ true)
     × HasOrderly (names_of u) (is_open (names_of u) (marked u) (marked u)) false (body_in (marked u))
 function_orderly u orderly =
-    let all = (both_true _ _ orderly).1 in
-    let both = both_true _ _ all in
+    let all = (and_parts _ _ orderly).1 in
+    let both = and_parts _ _ all in
     (both.0, orderly_in (names_of u) (is_open (names_of u) (marked u) (marked u)) false (body_in (marked u)) both.1)

@@ -1,6 +1,7 @@
 -- A store, and that store with some variables set: what neither reads nor assigns these variables keeps the two so.
 use Rattle.std.proofs.Common.{◌≡◌, ℕ, Bool, true, false, true≢false, ◌||◌, nat_eq, eqb-true, eq-eqb, if◌then◌else◌, List, [], ◌∷◌, ◌++◌}
 use Rattle.std.proofs.Common.{map, Option, Some, None, refl, sym, ap, ◌∙◌}
+use Rattle.std.proofs.lemmas.Bool.{or_parts}
 use Rattle.rl_base.specs.declared.ids.SymbolId.{SymbolId}
 use Rattle.rl_machine.specs.Traces.{Store, set}
 use Rattle.rl_machine.specs.declared.trace.Assignment.{Assignment}
@@ -23,16 +24,12 @@ pub set_by-append : (first second : List Assignment) → set_by (first ++ second
 set_by-append [] second = refl
 set_by-append (a ∷ first) second = ap (λ (l : List ℕ). a.symbol.0 ∷ l) (set_by-append first second)
 
-neither : (a b : Bool) → a || b ≡ false → (a ≡ false) × (b ≡ false)
-neither true b none = absurd (true≢false none)
-neither false b none = (refl, none)
-
 -- A variable beside these has its old value.
 pub set_apart : (assignments : List Assignment) (symbol : ℕ) → contains (set_by assignments) symbol ≡ false → (store : Store)
     → set_all assignments store symbol ≡ store symbol
 set_apart [] symbol apart store = refl
 set_apart (a ∷ assignments) symbol apart store =
-    let both = neither (nat_eq symbol a.symbol.0) (contains (set_by assignments) symbol) apart in
+    let both = or_parts (nat_eq symbol a.symbol.0) (contains (set_by assignments) symbol) apart in
     set_apart assignments symbol both.1 (set store a.symbol.0 a.value)
     ∙ ap (λ (b : Bool). if b then a.value else store symbol) both.0
 
@@ -55,7 +52,7 @@ pub set_before : (assignments : List Assignment) (symbol : ℕ) → contains (se
     → set_all assignments (set store symbol v) ≡ set (set_all assignments store) symbol v
 set_before [] symbol apart v store = refl
 set_before (a ∷ assignments) symbol apart v store =
-    let both = neither (nat_eq symbol a.symbol.0) (contains (set_by assignments) symbol) apart in
+    let both = or_parts (nat_eq symbol a.symbol.0) (contains (set_by assignments) symbol) apart in
     ap (set_all assignments) (set_swapped store symbol a.symbol.0 v a.value both.0)
     ∙ set_before assignments symbol both.1 v (set store a.symbol.0 a.value)
 

@@ -1,7 +1,7 @@
 -- The tests of a `switch` in an orderly function: a run that evaluates them before the discriminant is one that evaluates them behind it.
 use Rattle.std.proofs.Common.{◌≡◌, ℕ, Bool, true, false, true≢false, not, if◌then◌else◌, List, [], ◌∷◌, Option, Some, None, refl, sym}
 use Rattle.std.proofs.Common.{ap, subst, ◌∙◌}
-use Rattle.std.proofs.lemmas.Bool.{and_parts}
+use Rattle.std.proofs.lemmas.Bool.{and_parts, not-true}
 use Rattle.rl_base.specs.declared.diagnostic.Diagnostic.{Diagnostic}
 use Rattle.rl_grammar.specs.Grammar.{fits, each}
 use Rattle.rl_grammar.specs.declared.kind.Field.TheVariants as field
@@ -43,12 +43,8 @@ module _ (t : Scene) (assigned : List ℕ) (closed : (symbol : ℕ) → t.world.
   steady_read (Local symbol) is = record {
     of = λ store. store symbol.0;
     gives = λ ways f store answers. refl;
-    same = λ after before agree. agree symbol.0 (not_true (contains assigned symbol.0) is);
+    same = λ after before agree. agree symbol.0 (not-true (contains assigned symbol.0) is);
   }
-    where
-      not_true : (b : Bool) → not b ≡ true → b ≡ false
-      not_true true h = absurd (true≢false (sym h))
-      not_true false h = refl
   steady_read (Outer binding) is = absurd (true≢false (sym is))
 
   -- Literals by their forms.

@@ -5,7 +5,7 @@ use Rattle.std.specs.Str.{bytes_eq}
 use Rattle.rl_base.specs.declared.ids.InstructionId.{InstructionId}
 use Rattle.rl_base.specs.declared.span.Span.{Span}
 use Rattle.rl_hir.specs.Blocks.{Pair as BlockPair}
-use Rattle.rl_hir.specs.Written.{value_word}
+use Rattle.rl_hir.specs.ValueWords.{value_word}
 use Rattle.rl_hir.specs.declared.function.HirFunction.{HirFunction}
 use Rattle.rl_hir.specs.declared.instruction.Instruction.{Instruction}
 use Rattle.rl_hir.specs.declared.instruction.InstructionValue.{InstructionValue}

@@ -7,6 +7,7 @@ pub mod Headline
 pub mod Held
 pub mod HeldNodes
 pub mod Jumps
+pub mod KnownSpans
 pub mod Live
 pub mod Locals
 pub mod Lowerable

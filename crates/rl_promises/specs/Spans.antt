@@ -1,9 +1,6 @@
 -- Spans of a result: each is that of a node of the function, or absent.
-use Rattle.std.specs.Prelude.{◌≡◌, ◌⊎◌, ℕ, Option, Some, None, IfSome, List, All, map}
+use Rattle.std.specs.Prelude.{◌≡◌, ◌⊎◌, Option, Some, None, IfSome, List, All, map}
 use Rattle.rl_base.specs.declared.span.Span.{Span}
-use Rattle.rl_bindings.specs.declared.event.Bound.{Bound}
-use Rattle.rl_context.specs.Index.{declaration_span}
-use Rattle.rl_context.specs.Sites.{sites_in}
 use Rattle.rl_hir.specs.Blocks.{Pair as BlockPair}
 use Rattle.rl_hir.specs.declared.function.HirFunction.{HirFunction}
 use Rattle.rl_hir.specs.declared.function.Identifier.{Identifier}
@@ -13,8 +10,6 @@ use Rattle.rl_hir.specs.declared.instruction.InstructionValue.TheVariants as val
 use Rattle.rl_hir.specs.declared.instruction.Place.{Place}
 use Rattle.rl_hir.specs.declared.terminal.Terminal.{Terminal}
 use Rattle.rl_model.specs.WellFormed.{instruction_places, param_place, terminal_places}
-use Rattle.rl_names.specs.Functions.{parameters_of}
-use Rattle.rl_names.specs.Names.{Names}
 use Rattle.rl_syntax.specs.Syntax.{Syntax, Node, Listed, Said, Count, Flag, Absent, Pieces, End, Then}
 
 abbrev mutual
@@ -31,12 +26,6 @@ abbrev mutual
   pub IsSpanAmong : Pieces → Span → Type 0
   IsSpanAmong End span = ⊥
   IsSpanAmong (Then piece pieces) span = IsSpanOf piece span ⊎ IsSpanAmong pieces span
-
--- The spans of the declarations that stand in a function, among the symbols of a unit, are those of its nodes. Of its parameters that are
--- names the declarations stand in it.
-pub record KnowsSpans (names : Names) (symbols : List Bound) (function : Syntax) : Type 0 where
-  pub spanned : (symbol : ℕ) (span : Span) → declaration_span (sites_in function) symbols symbol ≡ Some span → IsSpanOf function span
-  pub params : All (λ p. declaration_span (sites_in function) symbols p.symbol.0 ≡ Some p.declaration) (parameters_of names function)
 
 -- The spans of the places are absent, or `P` holds of them.
 abbrev pub AreSpanned : (P : Span → Type 0) → List Place → Type 0

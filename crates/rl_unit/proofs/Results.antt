@@ -33,7 +33,7 @@ use Rattle.std.proofs.lemmas.List.Elements.{All-nil}
 use Rattle.rl_model.specs.Marked.{marked}
 use Rattle.rl_promises.proofs.DeclarationSpans.{marked_spans}
 use Rattle.rl_promises.proofs.LocalVariables.{has_locals}
-use Rattle.rl_promises.specs.Spans.{KnowsSpans}
+use Rattle.rl_promises.specs.KnownSpans.{KnowsSpans}
 use Rattle.rl_promises.specs.Locals.{HasLocals}
 use Rattle.rl_names.specs.Names.{Names, function_names}
 use Rattle.rl_resolver.specs.Lookups.{declaration_ident, identified}

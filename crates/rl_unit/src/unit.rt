@@ -9,7 +9,7 @@ ghost use Rattle.rl_promises.specs.Headline.{LowersTo};
 ghost use Rattle.rl_semantic.specs.Rules.{least_broken};
 ghost use Rattle.rl_syntax.specs.Limits.{IsTooLarge};
 ghost use Rattle.rl_syntax.specs.Syntax.{syntax};
-ghost use Rattle.rl_promises.specs.Spans.{KnowsSpans};
+ghost use Rattle.rl_promises.specs.KnownSpans.{KnowsSpans};
 ghost use Rattle.rl_unit.specs.Answers.{IsMalformed, IsPending, IsRefused, IsSkipped, IsStopped};
 ghost use Rattle.rl_unit.specs.Functions.{IsFunctionError, IsRead, IsResultOf, IsUnitError, IsUnitResult, MayLower};
 ghost use Rattle.rl_names.specs.Names.{at_of};
