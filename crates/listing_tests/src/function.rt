@@ -11,7 +11,8 @@ use rl_hir::blocks::GraphBlocks;
 use rl_hir::function::{
     Hir, HirFunction, Identifier, IdentifierName, Lowered, Pair, Param, ReactFunctionType,
 };
-use rl_hir::listing::write_listing;
+use rl_hir::listing::{listing, write_listing};
+use rl_text::write::write_raw;
 use std::alloc::Global;
 use std::test::Fail;
 
@@ -105,6 +106,13 @@ fn listed(alloc: Global) -> Result<Vec<u8>, OutOfMemory> {
     Ok(out)
 }
 
+/// The bytes that the tree of the listing spells.
+fn spelled(alloc: Global) -> Result<Vec<u8>, OutOfMemory> {
+    let lowered = result(alloc)?;
+    let raw = listing(alloc, &lowered)?;
+    write_raw(alloc, &raw)
+}
+
 /// Appends rows with a space between; each stands between `open` and `close`.
 fn push_rows(rows: &[&str], open: &str, close: &str, out: &mut Vec<u8>) -> Result<(), OutOfMemory> {
     let mut apart = false;
@@ -137,5 +145,14 @@ fn lists_each_value_and_terminal(rt: HostRuntime) -> Result<(), Fail> {
     let wanted = wanted(alloc)?;
     let listed = listed(alloc)?;
     assert_eq!(rt; listed.as_slice(), wanted.as_slice());
+    Ok(())
+}
+
+#[test]
+fn the_tree_spells_the_listing(rt: HostRuntime) -> Result<(), Fail> {
+    let alloc = rt.alloc();
+    let listed = listed(alloc)?;
+    let spelled = spelled(alloc)?;
+    assert_eq!(rt; spelled.as_slice(), listed.as_slice());
     Ok(())
 }
