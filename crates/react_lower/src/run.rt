@@ -65,9 +65,12 @@ pub fn run<S: Source, K: Sink>(
     source: &mut S,
     sink: &mut K,
 ) -> Status
-    // `Usage` comes of words that are no command, unless an allocation fails before that is known.
+    // `Usage` comes of words that are no command, unless an allocation fails before that is known. Of such words nothing is read, and
+    // nothing is written.
     ensures usage { result ≡ Status.Usage → IsCommand (map string_bytes words.now) → ⊥ }
     ensures others { (IsCommand (map string_bytes words.now) → ⊥) → (result ≡ Status.Usage) ⊎ (result ≡ Status.OutOfMemory) }
+    ensures unread { (IsCommand (map string_bytes words.now) → ⊥)
+        → Keeps (S.left source.old) (S.left source.new) × Keeps (K.held sink.old) (K.held sink.new) }
 
     // Each other status, by the command, the bytes that were left and the bytes that were written.
     ensures lowers { map string_bytes words.now ≡ codes "lower" ∷ []
@@ -81,8 +84,6 @@ pub fn run<S: Source, K: Sink>(
 
     // The bytes that were read.
     ensures read { HasRead result → ReadsWhole (S.left source.old) (S.left source.new) }
-    ensures unread { result ≡ Status.Usage
-        → Keeps (S.left source.old) (S.left source.new) × Keeps (K.held sink.old) (K.held sink.new) }
 
     // A fault ends the run only where one was counted.
     ensures read_cause { result ≡ Status.ReadFault → Rose (S.faults source.old) (S.faults source.new) }

@@ -211,10 +211,13 @@ pub fn source_trace<S: Source, K: Sink>(
     source: &mut S,
     sink: &mut K,
 ) -> Status
-    // `Usage` comes of words that spell no arguments, unless an allocation fails before that is known.
+    // `Usage` comes of words that spell no arguments, unless an allocation fails before that is known. Of such words nothing is read, and
+    // nothing is written.
     ensures usage { result ≡ Status.Usage → (a : Args) → traced.AreSourceWords (map string_bytes words.now) a → ⊥ }
     ensures others { ((a : Args) → traced.AreSourceWords (map string_bytes words.now) a → ⊥)
         → (result ≡ Status.Usage) ⊎ (result ≡ Status.OutOfMemory) }
+    ensures unread { ((a : Args) → traced.AreSourceWords (map string_bytes words.now) a → ⊥)
+        → Keeps (S.left source.old) (S.left source.new) × Keeps (K.held sink.old) (K.held sink.new) }
 
     // Each other status, by the arguments, the bytes that were left and the bytes that were written.
     ensures explained { (a : Args) → traced.AreSourceWords (map string_bytes words.now) a
@@ -224,8 +227,6 @@ pub fn source_trace<S: Source, K: Sink>(
 
     // The bytes that were read.
     ensures read { HasRead result → ReadsWhole (S.left source.old) (S.left source.new) }
-    ensures unread { result ≡ Status.Usage
-        → Keeps (S.left source.old) (S.left source.new) × Keeps (K.held sink.old) (K.held sink.new) }
 
     // A fault ends the run only where one was counted.
     ensures read_cause { result ≡ Status.ReadFault → Rose (S.faults source.old) (S.faults source.new) }
