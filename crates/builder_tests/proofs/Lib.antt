@@ -1,2 +1,3 @@
+pub mod CapturingGraphs
 pub mod Graphs
 pub mod Inners

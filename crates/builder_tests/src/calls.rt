@@ -3,8 +3,8 @@
 ghost use Rattle.std.specs.Prelude.{◌<◌, ◌^◌, length};
 ghost use Rattle.rl_builder.specs.Builder.{state_of};
 
-use crate::moves::{blocks, branches, closures, graph, openings, undefined};
-use crate::nested::inner;
+use crate::moves::{blocks, branches, closings, closures, graph, openings, undefined};
+use crate::nested::{captures, inner, tables};
 use crate::texts::{Builder, push_target, ready};
 use rl_ast::function_node::FunctionNode;
 use rl_ast::read::read_tree;
@@ -48,6 +48,8 @@ pub enum Calls {
     Closures,
     /// The scope of a `switch`, and what is behind it (`openings`).
     Openings,
+    /// A handler and a scope that single moves open and close (`closings`).
+    Closings,
     /// Two `if` statements (`branches`).
     Branches,
     /// The blocks of the graph of an `if`, in a `MapBlocks` (`graph`).
@@ -56,6 +58,10 @@ pub enum Calls {
     DenseGraph,
     /// An inner function's graph (`inner`).
     Inner,
+    /// The graph of an inner function that captures a variable (`captures`).
+    Captures,
+    /// The tables of the unit (`tables`).
+    Tables,
 }
 
 /// The targets of `break` without a label and with `label`, and then those of `continue`.
@@ -170,12 +176,15 @@ fn answer<U: ReadsUnit>(
         Calls::Blocks => blocks(alloc, builder),
         Calls::Closures => closures(alloc, builder),
         Calls::Openings => openings(alloc, builder),
+        Calls::Closings => closings(alloc, builder),
         Calls::Branches => branches(alloc, builder),
         Calls::Graph => graph::<U, MapBlocks>(alloc, builder.unit(), builder.function_scope()),
         Calls::DenseGraph => {
             graph::<U, DenseBlocks>(alloc, builder.unit(), builder.function_scope())
         }
         Calls::Inner => inner(alloc, builder),
+        Calls::Captures => captures(alloc, builder),
+        Calls::Tables => tables(alloc, builder),
     }
 }
 

@@ -5,6 +5,7 @@
 pub mod branch;
 #[cfg(test)]
 mod calls;
+pub mod captures;
 pub mod inner;
 #[cfg(test)]
 mod moves;
@@ -12,5 +13,4 @@ mod moves;
 mod nested;
 #[cfg(test)]
 mod tests;
-#[cfg(test)]
-mod texts;
+pub mod texts;

@@ -8,6 +8,7 @@ use crate::texts::{Builder, push_kind, push_number, push_target, push_truth, rea
 use rl_base::error::OutOfMemory;
 use rl_base::ids::{BlockId, EvaluationOrder, IdentifierId, ScopeId};
 use rl_base::stop::Stop;
+use rl_builder::jumps::JumpScope;
 use rl_builder::unit_tables::ReadsUnit;
 use rl_hir::blocks::Blocks;
 use rl_hir::function::BlockKind;
@@ -106,6 +107,26 @@ pub fn openings<U: ReadsUnit>(alloc: Global, builder: &mut Builder<'_, U>) -> Re
     let mut text = String::new(alloc);
     let inside = builder.switch_scope(None, BlockId(2), |builder| Ok(builder.lookup_break(None)))?;
     push_target(alloc, &mut text, inside)?;
+    push_target(alloc, &mut text, builder.lookup_break(None))?;
+    Ok(text)
+}
+
+/// The block that throws go to behind a handler that was closed, and the target of a `break` in and behind a scope that was.
+pub fn closings<U: ReadsUnit>(alloc: Global, builder: &mut Builder<'_, U>) -> Result<String, Stop> {
+    let mut text = String::new(alloc);
+    builder.open_handler(BlockId(7))?;
+    builder.close_handler();
+    push_number(
+        alloc,
+        &mut text,
+        builder.resolve_throw_handler().map(|id| id.0),
+    )?;
+    builder.open_scope(JumpScope::Switch {
+        label: None,
+        break_block: BlockId(2),
+    })?;
+    push_target(alloc, &mut text, builder.lookup_break(None))?;
+    builder.close_scope();
     push_target(alloc, &mut text, builder.lookup_break(None))?;
     Ok(text)
 }

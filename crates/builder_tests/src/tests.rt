@@ -1,6 +1,14 @@
 //! Tests of the builder's calls on small units.
 
 use crate::calls::{Calls, check};
+use rl_atoms::entity_table::EntityTable;
+use rl_base::span::Span;
+use rl_base::text::Text;
+use rl_bindings::symbol_kind::BindingKind as SymbolKind;
+use rl_builder::resolve::convert_binding_kind;
+use rl_hir::binding::BindingKind;
+use rl_hir::environment::Environment;
+use rl_hir::function::{IdentifierName, ReactFunctionType};
 use std::test::Fail;
 
 /// A statement with a marked function, `() => null`.
@@ -34,6 +42,7 @@ fn moves_build_blocks(rt: HostRuntime) -> Result<(), Fail> {
         (Calls::Blocks, "Value Block 0 Loop Sequence "),
         (Calls::Closures, "Block 2 yes Loop - yes - "),
         (Calls::Openings, "2 NoBreak "),
+        (Calls::Closings, "- 2 NoBreak "),
         (Calls::Branches, "Block Block "),
         (Calls::Graph, "> 0 0 > 2 2 0 > 1 "),
         (Calls::DenseGraph, "> 0 0 > 2 2 0 > 1 "),
@@ -50,5 +59,50 @@ const USES: &str =
 
 #[test]
 fn an_inner_function_is_built_over_the_same_environment(rt: HostRuntime) -> Result<(), Fail> {
-    check(&rt, rt.alloc(), USES, Calls::Inner, "0 yes x ")
+    let rows = [
+        (Calls::Inner, "0 yes x "),
+        (Calls::Captures, "Sequence 5 0 x "),
+        (Calls::Tables, "x yes "),
+    ];
+    for (calls, wanted) in rows {
+        check(&rt, rt.alloc(), USES, calls, wanted)?;
+    }
+    Ok(())
+}
+
+#[test]
+fn a_kind_is_that_of_its_name(rt: HostRuntime) -> Result<(), Fail> {
+    let rows = [
+        (SymbolKind::Var, BindingKind::Var),
+        (SymbolKind::Let, BindingKind::Let),
+        (SymbolKind::Const, BindingKind::Const),
+        (SymbolKind::Param, BindingKind::Param),
+        (SymbolKind::Module, BindingKind::Module),
+        (SymbolKind::Hoisted, BindingKind::Hoisted),
+        (SymbolKind::Local, BindingKind::Local),
+        (SymbolKind::Unknown, BindingKind::Unknown),
+    ];
+    for (kind, wanted) in rows {
+        assert_eq!(rt; convert_binding_kind(&kind), wanted);
+    }
+    Ok(())
+}
+
+#[test]
+fn an_identifier_takes_a_name_and_a_span(rt: HostRuntime) -> Result<(), Fail> {
+    let alloc = rt.alloc();
+    let mut env = Environment::new(alloc, ReactFunctionType::Other, EntityTable::new(alloc))?;
+    let id = env.next_identifier_id()?;
+    if (id.0 as usize) < env.identifiers().len() {
+        env.set_name(id, IdentifierName::Named(Text::from_str(alloc, "x")?));
+        env.set_span(id, Span { start: 5, end: 6 });
+    }
+    for identifier in env.identifiers() {
+        assert!(rt;
+            matches!(&identifier.name, Some(IdentifierName::Named(name)) if name.as_str() == "x")
+        );
+        assert_eq!(rt; identifier.span, Some(Span { start: 5, end: 6 }));
+    }
+    assert_eq!(rt; env.identifiers().len(), 1);
+    Ok(())
 }
