@@ -43,7 +43,6 @@ all_append : (bs cs symbols : List Bound) → add_all symbols (bs ++ cs) ≡ add
 all_append [] cs symbols = refl
 all_append (b ∷ bs) cs symbols = all_append bs cs (add symbols b)
 
-
 -- The number that a symbol has.
 record HasNumber (symbols : List Bound) (b : Bound) : Type 0 where
   number : ℕ
