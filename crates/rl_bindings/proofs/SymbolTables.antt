@@ -6,7 +6,7 @@ use Rattle.std.specs.List.{position_from}
 use Rattle.std.specs.Map.{lookup}
 use Rattle.std.specs.Ordering.{bool_cmp, ordering_then}
 use Rattle.rl_bindings.specs.Symbols.{is_own, same, is_at, number_at, option_or, binding}
-use Rattle.rl_bindings.specs.SymbolTables.{key_cmp, key_of, same_key, key_place, number_by, IsTable}
+use Rattle.rl_bindings.specs.SymbolTables.{key_cmp, key_of, same_key, key_slot, number_by, IsTable}
 use Rattle.rl_base.specs.Slots.{slot_at, is_key, numbered, IsSlotted}
 use Rattle.rl_base.specs.declared.slots.Slot.{Slot}
 use Rattle.rl_base.specs.declared.slots.Slot.TheVariants as slot
@@ -78,7 +78,7 @@ key_tied own b mine scope name is =
     ∙ ap (λ x. x && (is_eq (nat_cmp b.scope.0 scope) && is_eq (nat_cmp b.name name))) (bool_tied mine own ∙ ap (same own) is)
     ∙ (λ i. same own (is_own b.kind) && (nat_tied b.scope.0 scope i && nat_tied b.name name i))
 
--- A declaration's own place.
+-- A declaration's own slot.
 same_self : (a : Bool) → same a a ≡ true
 same_self true = refl
 same_self false = refl
@@ -86,7 +86,7 @@ same_self false = refl
 pub at_self : (b : Bound) → is_at (is_own b.kind) b.scope.0 b.name b ≡ true
 at_self b = λ i. same_self (is_own b.kind) i && (eq-eqb b.scope.0 b.scope.0 refl i && eq-eqb b.name b.name refl i)
 
--- The place of a declaration.
+-- The slot of a declaration.
 pub record IsAt (b : Bound) (own : Bool) (s n : ℕ) : Type 0 where
   pub mine : is_own b.kind ≡ own
   pub scope : b.scope.0 ≡ s
@@ -104,7 +104,7 @@ at_is b own s n at =
 pub number-same : (symbols : List Bound) (b : Bound) (own : Bool) (s n : ℕ) → is_at own s n b ≡ true → number_at own s n symbols ≡ number_at (is_own b.kind) b.scope.0 b.name symbols
 number-same symbols b own s n at = let is = at_is b own s n at in sym (λ i. number_at (is.mine i) (is.scope i) (is.name i) symbols)
 
--- Two places of one declaration are one.
+-- Two slots of one declaration are one.
 pub at_both : (x b : Bound) (own : Bool) (s n : ℕ) → is_at own s n x ≡ true → is_at (is_own b.kind) b.scope.0 b.name x ≡ true → is_at own s n b ≡ true
 at_both x b own s n first second =
     let one = at_is x own s n first in
@@ -127,7 +127,7 @@ position-kept p i k (x ∷ xs) ys found = kept (p x) (position_from p (i + 1) xs
 by_key : (b : Bound) (key : ℕ × ℕ × Bool) → same_key (key_of b) key ≡ is_at key.2 key.1 key.0 b
 by_key b key = key_tied key.2 b (is_own b.kind) key.1 key.0 refl
 
--- Keys that are one have one place.
+-- Keys that are one have one slot.
 same_parts : (x y : ℕ × ℕ × Bool) → same_key x y ≡ true → (x.0 ≡ y.0) × (x.1 ≡ y.1)
 same_parts x y is = (eqb-true x.0 y.0 (sym (nat_tied x.0 y.0) ∙ both_left _ (is_eq (nat_cmp x.1 y.1)) two), eqb-true x.1 y.1 (sym (nat_tied x.1 y.1) ∙ both_right (is_eq (nat_cmp x.0 y.0)) _ two))
   where
@@ -137,8 +137,8 @@ same_parts x y is = (eqb-true x.0 y.0 (sym (nat_tied x.0 y.0) ∙ both_left _ (i
     two : (is_eq (nat_cmp x.0 y.0) && is_eq (nat_cmp x.1 y.1)) ≡ true
     two = tied_then (nat_cmp x.0 y.0) (nat_cmp x.1 y.1) ∙ both_left _ (is_eq (bool_cmp x.2 y.2)) one
 
-place_same : (count : ℕ) (x y : ℕ × ℕ × Bool) → same_key x y ≡ true → key_place count x ≡ key_place count y
-place_same count x y is = let parts = same_parts x y is in λ i. if nat_eq count 0 then 0 else (parts.0 i % 4294967296 + parts.1 i * 2654435761) % count
+slot_same : (count : ℕ) (x y : ℕ × ℕ × Bool) → same_key x y ≡ true → key_slot count x ≡ key_slot count y
+slot_same count x y is = let parts = same_parts x y is in λ i. if nat_eq count 0 then 0 else (parts.0 i % 4294967296 + parts.1 i * 2654435761) % count
 
 -- A symbol that is no own name is what its scope binds its name to.
 pub binding_first : (slots : List Slot) (numbers : BTreeMap (ℕ × ℕ × Bool) ℕ) (symbols : List Bound) (k : ℕ) (b : Bound) → IsTable slots numbers symbols → slice_get symbols k ≡ Some b → is_own b.kind ≡ false → Some k ≡ binding symbols b.scope.0 b.name
@@ -147,8 +147,8 @@ binding_first slots numbers symbols k b table got other =
 
 pub table_empty : (count : ℕ) (slots : List Slot) (numbers : BTreeMap (ℕ × ℕ × Bool) ℕ) (symbols : List Bound) → slots ≡ replicate count slot.Empty → IsEmpty numbers → symbols ≡ [] → IsTable slots numbers symbols
 table_empty count slots numbers symbols is unknown none = record {
-  slotted = subst (λ (l : List Bound). IsSlotted same_key (key_place (length slots)) slots (map key_of l) (get key_cmp numbers) (number_by l)) (sym none)
-      (no_keys same_key (key_place (length slots)) slots (get key_cmp numbers) (number_by []) (subst (λ ss. (p k : ℕ) → slot_at ss p ≡ slot.One k → false ≡ true) (sym is) (empty_slots count)) (λ key. ap (lookup _) unknown) (λ key. refl));
+  slotted = subst (λ (l : List Bound). IsSlotted same_key (key_slot (length slots)) slots (map key_of l) (get key_cmp numbers) (number_by l)) (sym none)
+      (no_keys same_key (key_slot (length slots)) slots (get key_cmp numbers) (number_by []) (subst (λ ss. (p k : ℕ) → slot_at ss p ≡ slot.One k → false ≡ true) (sym is) (empty_slots count)) (λ key. ap (lookup _) unknown) (λ key. refl));
   unique = λ k b got. absurd (let e : None ≡ Some b = sym (ap (λ l. slice_get l k) none) ∙ got in cc);
 }
 
@@ -178,31 +178,31 @@ unique_push symbols b unique new k x got =
     ∙ ap Some (sym last))
 
 -- The number of a key is that by its slot.
-pub by_slot : (slots : List Slot) (numbers : BTreeMap (ℕ × ℕ × Bool) ℕ) (symbols : List Bound) (key : ℕ × ℕ × Bool) (s : Slot) → IsTable slots numbers symbols → slot_at slots (key_place (length slots) key) ≡ s
+pub by_slot : (slots : List Slot) (numbers : BTreeMap (ℕ × ℕ × Bool) ℕ) (symbols : List Bound) (key : ℕ × ℕ × Bool) (s : Slot) → IsTable slots numbers symbols → slot_at slots (key_slot (length slots) key) ≡ s
     → number_by symbols key ≡ numbered same_key (map key_of symbols) (get key_cmp numbers key) s key
 by_slot slots numbers symbols key s table is = table.slotted.found key ∙ ap (λ t. numbered same_key (map key_of symbols) (get key_cmp numbers key) t key) is
 
 -- The slot that is read is that of the key.
-pub slot_known : (count place : ℕ) (slots seen : List Slot) (key : ℕ × ℕ × Bool) (s : Slot) → s ≡ slot_at seen place → seen ≡ slots → place ≡ key_place count key → count ≡ length slots → slot_at slots (key_place (length slots) key) ≡ s
-slot_known count place slots seen key s is same at counted = sym (is ∙ ap (λ (ss : List Slot). slot_at ss place) same ∙ ap (slot_at slots) (at ∙ ap (λ n. key_place n key) counted))
+pub slot_known : (count index : ℕ) (slots seen : List Slot) (key : ℕ × ℕ × Bool) (s : Slot) → s ≡ slot_at seen index → seen ≡ slots → index ≡ key_slot count key → count ≡ length slots → slot_at slots (key_slot (length slots) key) ≡ s
+slot_known count index slots seen key s is same at counted = sym (is ∙ ap (λ (ss : List Slot). slot_at ss index) same ∙ ap (slot_at slots) (at ∙ ap (λ n. key_slot n key) counted))
 
-pub slot_crowded : (slots : List Slot) (key : ℕ × ℕ × Bool) (place : ℕ) → place ≡ key_place (length slots) key → place < length slots → slot_at (slice_set slots place slot.Many) (key_place (length (slice_set slots place slot.Many)) key) ≡ slot.Many
-slot_crowded slots key place at within =
-    ap (slot_at (slice_set slots place slot.Many)) (ap (λ n. key_place n key) (length-set slots place slot.Many) ∙ sym at)
-    ∙ slot_set_same slots place slot.Many within
+pub slot_crowded : (slots : List Slot) (key : ℕ × ℕ × Bool) (index : ℕ) → index ≡ key_slot (length slots) key → index < length slots → slot_at (slice_set slots index slot.Many) (key_slot (length (slice_set slots index slot.Many)) key) ≡ slot.Many
+slot_crowded slots key index at within =
+    ap (slot_at (slice_set slots index slot.Many)) (ap (λ n. key_slot n key) (length-set slots index slot.Many) ∙ sym at)
+    ∙ slot_set_same slots index slot.Many within
 
 -- A further symbol, whose key has an empty slot.
-pub pushed_empty : (slots after : List Slot) (numbers : BTreeMap (ℕ × ℕ × Bool) ℕ) (symbols added : List Bound) (b : Bound) (place last : ℕ) → IsTable slots numbers symbols → place ≡ key_place (length slots) (key_of b) → slot_at slots place ≡ slot.Empty
-    → place < length slots → last ≡ length symbols → after ≡ slice_set slots place (slot.One last) → added ≡ symbols ++ b ∷ [] → IsTable after numbers added
-pushed_empty slots after numbers symbols added b place last table at is within counted set grown =
-    let empty : slot_at slots (key_place (length slots) (key_of b)) ≡ slot.Empty = ap (slot_at slots) (sym at) ∙ is in
+pub pushed_empty : (slots after : List Slot) (numbers : BTreeMap (ℕ × ℕ × Bool) ℕ) (symbols added : List Bound) (b : Bound) (index last : ℕ) → IsTable slots numbers symbols → index ≡ key_slot (length slots) (key_of b) → slot_at slots index ≡ slot.Empty
+    → index < length slots → last ≡ length symbols → after ≡ slice_set slots index (slot.One last) → added ≡ symbols ++ b ∷ [] → IsTable after numbers added
+pushed_empty slots after numbers symbols added b index last table at is within counted set grown =
+    let empty : slot_at slots (key_slot (length slots) (key_of b)) ≡ slot.Empty = ap (slot_at slots) (sym at) ∙ is in
     let new : number_by symbols (key_of b) ≡ None = by_slot slots numbers symbols (key_of b) slot.Empty table empty in
-    let count : length after ≡ length slots = ap length set ∙ length-set slots place (slot.One last) in
+    let count : length after ≡ length slots = ap length set ∙ length-set slots index (slot.One last) in
     subst (λ (l : List Bound). IsTable after numbers l) (sym grown)
     record {
-      slotted = subst (λ n. IsSlotted same_key (key_place n) after (map key_of (symbols ++ b ∷ [])) (get key_cmp numbers) (number_by (symbols ++ b ∷ []))) (sym count)
-          (subst (λ ks. IsSlotted same_key (key_place (length slots)) after ks (get key_cmp numbers) (number_by (symbols ++ b ∷ []))) (sym (keys_push symbols b))
-          (push_empty same_key (key_place (length slots)) (place_same (length slots)) slots after (map key_of symbols) (get key_cmp numbers) (number_by symbols) (number_by (symbols ++ b ∷ [])) (key_of b) last table.slotted empty
+      slotted = subst (λ n. IsSlotted same_key (key_slot n) after (map key_of (symbols ++ b ∷ [])) (get key_cmp numbers) (number_by (symbols ++ b ∷ []))) (sym count)
+          (subst (λ ks. IsSlotted same_key (key_slot (length slots)) after ks (get key_cmp numbers) (number_by (symbols ++ b ∷ []))) (sym (keys_push symbols b))
+          (push_empty same_key (key_slot (length slots)) (slot_same (length slots)) slots after (map key_of symbols) (get key_cmp numbers) (number_by symbols) (number_by (symbols ++ b ∷ [])) (key_of b) last table.slotted empty
           (subst (λ p. p < length slots) at within)
           (counted ∙ sym (keys_length symbols))
           (set ∙ ap (λ p. slice_set slots p (slot.One last)) at)
@@ -211,14 +211,14 @@ pushed_empty slots after numbers symbols added b place last table at is within c
     }
 
 -- The slot of one key becomes one of many.
-pub crowded : (slots after : List Slot) (before more : BTreeMap (ℕ × ℕ × Bool) ℕ) (symbols : List Bound) (place other : ℕ) (y : Bound) → IsTable slots before symbols → slot_at slots place ≡ slot.One other → place < length slots → after ≡ slice_set slots place slot.Many
+pub crowded : (slots after : List Slot) (before more : BTreeMap (ℕ × ℕ × Bool) ℕ) (symbols : List Bound) (index other : ℕ) (y : Bound) → IsTable slots before symbols → slot_at slots index ≡ slot.One other → index < length slots → after ≡ slice_set slots index slot.Many
     → ((key : ℕ × ℕ × Bool) → get key_cmp more key ≡ (if is_key same_key (slice_get (map key_of symbols) other) key then Some other else get key_cmp before key)) → IsTable after more symbols
-crowded slots after before more symbols place other y table one within set added =
-    let count : length after ≡ length slots = ap length set ∙ length-set slots place slot.Many in
-    let got : slice_get (map key_of symbols) other ≡ Some (get_or (map key_of symbols) other (key_of y)) = slice_get-get_or (map key_of symbols) other (key_of y) (table.slotted.within place other one) in
+crowded slots after before more symbols index other y table one within set added =
+    let count : length after ≡ length slots = ap length set ∙ length-set slots index slot.Many in
+    let got : slice_get (map key_of symbols) other ≡ Some (get_or (map key_of symbols) other (key_of y)) = slice_get-get_or (map key_of symbols) other (key_of y) (table.slotted.within index other one) in
     record {
-      slotted = subst (λ n. IsSlotted same_key (key_place n) after (map key_of symbols) (get key_cmp more) (number_by symbols)) (sym count)
-          (crowd same_key (key_place (length slots)) (place_same (length slots)) slots after (map key_of symbols) (get key_cmp before) (get key_cmp more) (number_by symbols) place other (get_or (map key_of symbols) other (key_of y)) table.slotted one within got set
+      slotted = subst (λ n. IsSlotted same_key (key_slot n) after (map key_of symbols) (get key_cmp more) (number_by symbols)) (sym count)
+          (crowd same_key (key_slot (length slots)) (slot_same (length slots)) slots after (map key_of symbols) (get key_cmp before) (get key_cmp more) (number_by symbols) index other (get_or (map key_of symbols) other (key_of y)) table.slotted one within got set
           (λ key. added key ∙ ap (λ o. if is_key same_key o key then Some other else get key_cmp before key) got));
       unique = table.unique;
     }
@@ -228,12 +228,12 @@ pub table_same : (slots : List Slot) (before after : BTreeMap (ℕ × ℕ × Boo
 table_same slots before after symbols kept table unchanged same =
     subst (λ (l : List Bound). IsTable slots after l) (sym same)
     record {
-      slotted = many_same same_key (key_place (length slots)) slots (map key_of symbols) (get key_cmp before) (get key_cmp after) (number_by symbols) table.slotted (λ key. ap (lookup _) unchanged);
+      slotted = many_same same_key (key_slot (length slots)) slots (map key_of symbols) (get key_cmp before) (get key_cmp after) (number_by symbols) table.slotted (λ key. ap (lookup _) unchanged);
       unique = table.unique;
     }
 
--- A symbol that is added among those that share a place, or is not.
-pub among : (slots : List Slot) (before after : BTreeMap (ℕ × ℕ × Bool) ℕ) (symbols added : List Bound) (b : Bound) (r : Result (Option ℕ) OutOfMemory) → IsTable slots before symbols → slot_at slots (key_place (length slots) (key_of b)) ≡ slot.Many
+-- A symbol that is added among those that share a slot, or is not.
+pub among : (slots : List Slot) (before after : BTreeMap (ℕ × ℕ × Bool) ℕ) (symbols added : List Bound) (b : Bound) (r : Result (Option ℕ) OutOfMemory) → IsTable slots before symbols → slot_at slots (key_slot (length slots) (key_of b)) ≡ slot.Many
     → IfOk r (λ known. known ≡ get key_cmp before (key_of b))
     → IfOk r (λ known. added ≡ (if is_some known then symbols else symbols ++ b ∷ []))
     → IfOk r (λ known. MatchOption known (Updates key_cmp before after (key_of b) (Some (length symbols))) (λ _. IsUnchanged before after))
@@ -242,8 +242,8 @@ among slots before after symbols added b (Ok None) table many known grown change
     let new : number_by symbols (key_of b) ≡ None = by_slot slots before symbols (key_of b) slot.Many table many ∙ sym known in
     subst (λ (l : List Bound). IsTable slots after l) (sym grown)
     record {
-      slotted = subst (λ ks. IsSlotted same_key (key_place (length slots)) slots ks (get key_cmp after) (number_by (symbols ++ b ∷ []))) (sym (keys_push symbols b))
-          (push_many same_key (key_place (length slots)) (place_same (length slots)) slots (map key_of symbols) (get key_cmp before) (get key_cmp after) (number_by symbols) (number_by (symbols ++ b ∷ [])) (key_of b) (length symbols) table.slotted many (λ key. changed.0 key) (number_pushed symbols b new));
+      slotted = subst (λ ks. IsSlotted same_key (key_slot (length slots)) slots ks (get key_cmp after) (number_by (symbols ++ b ∷ []))) (sym (keys_push symbols b))
+          (push_many same_key (key_slot (length slots)) (slot_same (length slots)) slots (map key_of symbols) (get key_cmp before) (get key_cmp after) (number_by symbols) (number_by (symbols ++ b ∷ [])) (key_of b) (length symbols) table.slotted many (λ key. changed.0 key) (number_pushed symbols b new));
       unique = unique_push symbols b table.unique new;
     }
 among slots before after symbols added b (Ok (Some k)) table many known grown changed same unchanged = table_same slots before after symbols added table changed grown

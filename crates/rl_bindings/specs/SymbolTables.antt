@@ -19,19 +19,19 @@ key_of b = (b.name, b.scope.0, is_own b.kind)
 abbrev pub same_key : ℕ × ℕ × Bool → ℕ × ℕ × Bool → Bool
 same_key x y = is_eq (key_cmp x y)
 
--- The place of a key among `count` slots, 0 if there are none. Names in a row have places in a row. The factor of the scope is a
--- prime: for one name, `count` scopes in a row have different places, if `count` is smaller than the factor.
-abbrev pub key_place : (count : ℕ) → ℕ × ℕ × Bool → ℕ
-key_place count key = if nat_eq count 0 then 0 else (key.0 % 4294967296 + key.1 * 2654435761) % count
+-- The slot of a key among `count` slots, 0 if there are none. Names in a row have slots in a row. The factor of the scope is a
+-- prime: for one name, `count` scopes in a row have different slots, if `count` is smaller than the factor.
+abbrev pub key_slot : (count : ℕ) → ℕ × ℕ × Bool → ℕ
+key_slot count key = if nat_eq count 0 then 0 else (key.0 % 4294967296 + key.1 * 2654435761) % count
 
 -- The number of the symbol with a key: its index among `symbols`.
 abbrev pub number_by : (symbols : List Bound) → ℕ × ℕ × Bool → Option ℕ
 number_by symbols key = number_at key.2 key.1 key.0 symbols
 
--- The slots and the map are the index of `symbols`, no two of which have one key. The map has the keys that share their place
+-- The slots and the map are the index of `symbols`, no two of which have one key. The map has the keys that share their slot
 -- with others.
 pub record IsTable (slots : List Slot) (numbers : BTreeMap (ℕ × ℕ × Bool) ℕ) (symbols : List Bound) : Type 0 where
-  pub slotted : IsSlotted same_key (key_place (length slots)) slots (map key_of symbols) (get key_cmp numbers) (number_by symbols)
+  pub slotted : IsSlotted same_key (key_slot (length slots)) slots (map key_of symbols) (get key_cmp numbers) (number_by symbols)
   pub unique : (k : ℕ) (b : Bound) → slice_get symbols k ≡ Some b → number_at (is_own b.kind) b.scope.0 b.name symbols ≡ Some k
 
 -- True if a scope has a symbol of the name, as an own name or otherwise.

@@ -4,7 +4,7 @@ ghost use Rattle.std.specs.Prelude.{◌≡◌, ◌<◌, ◌++◌, ◌∷◌, [],
 ghost use Rattle.std.specs.BTreeMap.{Updates, IsUnchanged, get};
 ghost use Rattle.rl_bindings.specs.Symbols.{add, binding, number_at};
 ghost use Rattle.rl_bindings.specs.Symbols as names;
-ghost use Rattle.rl_bindings.specs.SymbolTables.{key_cmp, key_of, key_place, same_key};
+ghost use Rattle.rl_bindings.specs.SymbolTables.{key_cmp, key_of, key_slot, same_key};
 ghost use Rattle.rl_base.specs.Slots.{is_key};
 
 use crate::event::{BindKind, Bound};
@@ -24,9 +24,9 @@ type SymbolKey = (usize, u32, bool);
 #[derive(Drop)]
 pub struct SymbolTable {
     symbols: Vec<Bound>,
-    /// For each place, the keys that have it: none, one by its number, or many.
+    /// For each slot, the keys that have it: none, one by its number, or many.
     slots: Vec<Slot>,
-    /// The numbers of the keys that share a place.
+    /// The numbers of the keys that share a slot.
     numbers: BTreeMap<SymbolKey, usize>,
 }
 
@@ -80,7 +80,7 @@ impl SymbolTable {
         ensures { result ≡ number_at own scope.0 name self.now }
     {
         let key = (name, scope.0, own);
-        match slot_at(self.slots.as_slice(), key_place(self.slots.len(), key)) {
+        match slot_at(self.slots.as_slice(), key_slot(self.slots.len(), key)) {
             Slot::Empty => None,
             Slot::One(number) => {
                 if has_key(self.symbols.as_slice(), number, key) {
@@ -125,12 +125,12 @@ impl SymbolTable {
         ensures err { OnErr result (self.new ≡ self.old) }
     {
         let key = key_of(&bound);
-        let place = key_place(self.slots.len(), key);
-        match slot_at(self.slots.as_slice(), place) {
+        let index = key_slot(self.slots.len(), key);
+        match slot_at(self.slots.as_slice(), index) {
             Slot::Empty => {
                 let number = self.symbols.len();
                 self.symbols.push(bound)?;
-                self.slots[place] = Slot::One(number);
+                self.slots[index] = Slot::One(number);
                 Ok(None)
             }
             Slot::One(other) => {
@@ -138,7 +138,7 @@ impl SymbolTable {
                     return Ok(Some(other));
                 }
                 add_other(self.symbols.as_slice(), &mut self.numbers, other)?;
-                self.slots[place] = Slot::Many;
+                self.slots[index] = Slot::Many;
                 add_among(&mut self.symbols, &mut self.numbers, bound)
             }
             Slot::Many => add_among(&mut self.symbols, &mut self.numbers, bound),
@@ -153,9 +153,9 @@ fn key_of(bound: &Bound) -> SymbolKey
     (bound.name as usize, bound.scope.0, is_own(bound.kind))
 }
 
-/// The place of a key among `count` slots. 0 if there are none.
-fn key_place(count: usize, key: SymbolKey) -> usize
-    ensures { result ≡ key_place count key }
+/// The slot of a key among `count` slots. 0 if there are none.
+fn key_slot(count: usize, key: SymbolKey) -> usize
+    ensures { result ≡ key_slot count key }
 {
     if count == 0 {
         return 0;

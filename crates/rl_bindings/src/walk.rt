@@ -284,8 +284,8 @@ pub struct Found {
     pub kept: bool,
 }
 
-/// Number of slots for the names of a tree with about `nodes` nodes. Names that end in numbers share fewer places among a power
-/// of two than among other numbers of slots, where the places of neighbours are often the same.
+/// Number of slots for the names of a tree with about `nodes` nodes. Names that end in numbers share fewer slots among a power
+/// of two than among other numbers of slots, where the slots of neighbours are often the same.
 fn slots_for(nodes: usize) -> usize {
     nodes.min(MOST_SLOTS).next_power_of_two()
 }

@@ -137,17 +137,10 @@ impl SwitchFrame {
         Ok(())
     }
 
-    /// Takes the value of a case's test, which a default has not; the hole of the next case may open, or that of the value. `part` is the
-    /// span of the case. On `OutOfMemory` an allocation failed.
-    pub fn done<U: ReadsUnit, B>(
-        &mut self,
-        b: &mut HirBuilder<'_, U, B>,
-        part: Span,
-        test: Option<Place>,
-    ) -> Result<(), OutOfMemory>
-        ensures same_reference { b.new.env.ghost_name ≡ b.old.env.ghost_name }
-        ensures state { state_of U.tables b.new ≡ state_of U.tables b.old }
-        ensures frame { OnOk result (switch_of self.new ≡ spec.switch_after_done (switch_of self.old) test) }
+    /// Takes the value of a case's test, which a default has not; the hole of the next case may open, or that of the value. On
+    /// `OutOfMemory` an allocation failed.
+    pub fn done(&mut self, test: Option<Place>) -> Result<(), OutOfMemory>
+        ensures { OnOk result (switch_of self.new ≡ spec.switch_after_done (switch_of self.old) test) }
     {
         let block = self.block;
         self.cases.push(Case { test, block })?;

@@ -36,7 +36,6 @@ use rl_grammar::sort::{ArgumentTrees, ExpressionTree};
 use rl_hir::instruction::{InstructionValue, MethodCall, Place, PlaceOrSpread, PropertyLiteral};
 use rl_lower_parts::graph_builder::GraphBuilder;
 use rl_lower_parts::shape::{has_optional, is_assertion, lends};
-use rl_lower_parts::span::span_of;
 use rl_lower_parts::temporary::{lower_value_to_temporary, refuse, refuse_as_undefined};
 use rl_names::names::FunctionNames;
 use rl_optional_frames::chain_link::ChainLink;
@@ -214,7 +213,7 @@ fn open_link<U: ReadsUnit>(
     let mut link = ChainLink::begin(builder, at.span, optional, alternate)?;
     let early = link.alternate();
     let front = lower_front(alloc, builder, names, early, called, expression)?;
-    link.object(builder, span_of(expression.tree), tested(front))?;
+    link.object(builder, tested(front))?;
     Ok(OpenLink { link, front })
 }
 

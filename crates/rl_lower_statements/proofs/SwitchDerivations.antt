@@ -147,13 +147,13 @@ pub ruleset lasts = (last_pieces, no_pieces)
 
 pub case_framed : {names : Names} {at : At} {test : Syntax} {statements : Pieces} {tree : Syntax} {f f1 f2 : SwitchParts}
     {x b y b2 z : State}
-    {p : Option Place} (f3 : SwitchParts) (new : State)
+    {p : Option Place} (f3 : SwitchParts)
     → Node at word.Case (Then test (Then (Listed statements) End)) ≡ tree
     → b ≡ switch_entered f x → f1 ≡ switch_after_enter f x → LowersStatements names statements b y
     → b2 ≡ switch_left f1 y at.span → f2 ≡ switch_after_leave f1 → LowersCaseTest names test b2 z p
-    → new ≡ z → f3 ≡ switch_after_done f2 p → FramesCase names tree f f3 x new
-case_framed {names} {at} {test} {statements} {tree} {f} {f1} {f2} {x} {b} {y} {b2} {z} {p} f3 new is entered after l_statements left shut
-    l_test moved done = record {
+    → f3 ≡ switch_after_done f2 p → FramesCase names tree f f3 x z
+case_framed {names} {at} {test} {statements} {tree} {f} {f1} {f2} {x} {b} {y} {b2} {z} {p} f3 is entered after l_statements left shut
+    l_test done = record {
       next = λ begun span cases k.
           let inside : f1 ≡ switch_after_enter (switch_at begun span None k.ks) x =
           after ∙ ap (λ (q : SwitchParts). switch_after_enter q x) k.framed in
@@ -164,15 +164,12 @@ case_framed {names} {at} {test} {statements} {tree} {f} {f1} {f2} {x} {b} {y} {b
                 ∙ switch_at_more begun x span None k.ks p;
             by =
                 subst (λ (t : Syntax). LoweredCases names begun (Then t cases)
-                (record { test = p; block = block_id x.env.next_block } ∷ k.ks) new) is
-                (subst (λ (n : State).
-                LoweredCases names begun (Then (Node at word.Case (Then test (Then (Listed statements) End))) cases)
-                (record { test = p; block = block_id x.env.next_block } ∷ k.ks) n) (sym moved)
+                (record { test = p; block = block_id x.env.next_block } ∷ k.ks) z) is
                 (lowered.NextCase at test statements cases k.ks begun x y z p k.by
                 (subst (λ (o : State). LoweredStatements names statements o y)
                 (entered ∙ ap (λ (q : SwitchParts). switch_entered q x) k.framed) l_statements.by)
                 (subst (λ (o : State). LoweredCaseTest names test o z p)
-                (left ∙ ap (λ (q : SwitchParts). switch_left q y at.span) inside) l_test.by)));
+                (left ∙ ap (λ (q : SwitchParts). switch_left q y at.span) inside) l_test.by));
           };
     }
 

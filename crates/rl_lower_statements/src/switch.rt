@@ -77,7 +77,7 @@ fn lower_case<U: ReadsUnit>(
     lower_statements(alloc, builder, names, case.consequent)?;
     frame.leave(builder, case.at.span)?;
     let test = lower_case_test(alloc, builder, names, case.test)?;
-    frame.done(builder, case.at.span, test)?;
+    frame.done(test)?;
     Ok(())
 }
 

@@ -83,7 +83,6 @@ impl ChainLink {
     pub fn object<U: ReadsUnit, B>(
         &mut self,
         b: &mut HirBuilder<'_, U, B>,
-        _part: Span,
         object: Place,
     ) -> Result<(), OutOfMemory>
         requires open { is_some (link_of self.old).link ≡ true }

@@ -1,6 +1,6 @@
 //! The names of a unit that keeps the binding rules, after `oxc_semantic`.
 
-ghost use Rattle.std.specs.Prelude.{◌≡◌, ℕ, None, Some, map, IfOk, IfErr};
+ghost use Rattle.std.specs.Prelude.{◌≡◌, ℕ, true, None, Some, map, IfOk, IfErr};
 ghost use Rattle.rl_bindings.specs.Names.{names_in};
 ghost use Rattle.rl_bindings.specs.Tables.{declarations_in, references_in, scopes_in, symbols_in};
 ghost use Rattle.rl_rules.specs.Following.{keeps_all};
@@ -105,6 +105,7 @@ impl<'u> Semantic<'u> {
     /// The semantic tables of a unit, in time that is linear in its nodes, up to the logarithms of the look-ups. On
     /// `Malformed(rule)`, the unit breaks that rule of B1 to B9 and none with a lower number; on `OutOfMemory`, an allocation
     /// failed.
+    #[tactic(auto, using(crate::proofs::Kept::none_named, crate::proofs::Kept::others_kept))]
     pub fn of(alloc: Global, unit: &'u Unit) -> Result<Semantic<'u>, RuleError>
         ensures kept { IfOk result (λ semantic. spec.least_broken (syntax unit.now.tree) ≡ None) }
         ensures malformed { IfErr result (λ e. (rule : ℕ) → e ≡ RuleError.Malformed rule → spec.least_broken (syntax unit.now.tree) ≡ Some rule) }
@@ -115,6 +116,8 @@ impl<'u> Semantic<'u> {
         ensures references { IfOk result (λ semantic. semantic.bindings.references ≡ references_in (syntax unit.now.tree)) }
         ensures imports { IfOk result (λ semantic. map seen semantic.imports ≡ imports_in (syntax unit.now.tree)) }
         ensures nodes { IfOk result (λ semantic. semantic.nodes.now ≡ entries (syntax unit.now.tree)) }
+        ensures no_name_rule { IfOk result (λ semantic. semantic.bindings.least_broken_name_rule ≡ None) }
+        ensures other_rules { IfOk result (λ semantic. semantic.bindings.keeps_other_rules ≡ true) }
     {
         let bindings = Bindings::of(alloc, unit)?;
         let named = bindings.least_broken_name_rule;

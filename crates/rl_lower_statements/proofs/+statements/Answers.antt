@@ -1226,9 +1226,9 @@ switch::lower_case-lower_case_test-requires-clause-names g t c =
 
 pub switch::lower_case-returns-clause-lowered : goal.switch::lower_case-returns-clause-lowered
 switch::lower_case-returns-clause-lowered g t c =
-    case_framed (switch_of c.done.new.self) _ c.switch_case_view-case.ensures c.in_ok-enter.ensures.state c.in_ok-enter.ensures.frame
+    case_framed (switch_of c.done.new.self) c.switch_case_view-case.ensures c.in_ok-enter.ensures.state c.in_ok-enter.ensures.frame
     c.in_ok-lower_statements.ensures.lowered c.in_ok-leave.ensures.state c.in_ok-leave.ensures.frame c.in_ok-test.ensures.lowered
-    c.done.ensures.state c.in_ok-done.ensures.frame
+    c.in_ok-done.ensures
 
 pub switch::lower_cases-cases-init : goal.switch::lower_cases-cases-init
 switch::lower_cases-cases-init g t c =
