@@ -2,10 +2,13 @@
 //! functions.
 #![tactic(auto)]
 
+#[cfg(test)]
 pub mod branch;
 #[cfg(test)]
 mod calls;
+#[cfg(test)]
 pub mod captures;
+#[cfg(test)]
 pub mod inner;
 #[cfg(test)]
 mod moves;
@@ -13,4 +16,5 @@ mod moves;
 mod nested;
 #[cfg(test)]
 mod tests;
+#[cfg(test)]
 pub mod texts;

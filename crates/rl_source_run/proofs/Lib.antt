@@ -1,4 +1,3 @@
 pub mod Beginnings
 pub mod Endings
-pub mod Passing
 pub mod UnitRuns

@@ -5,16 +5,16 @@ ghost use Rattle.rl_source_run.specs.Ends.{last_of};
 ghost use Rattle.rl_source_stack.specs.Controls.{trace_of};
 ghost use Rattle.rl_source_stack.specs.States.{state_of};
 
-use crate::through::{
-    with_break, with_continue, with_normal, with_pair, with_pieces, with_short, with_throw,
-    with_value,
-};
 use rl_base::error::OutOfMemory;
 use rl_hir::terminal::ReturnVariant;
 use rl_source_expressions::calls::{call, call_of, delete_property, evaluate_callee};
 use rl_source_expressions::evaluate::evaluate;
 use rl_source_expressions::properties::link;
 use rl_source_expressions::targets::assign_to;
+use rl_source_frames::through::{
+    with_break, with_continue, with_normal, with_pair, with_pieces, with_short, with_throw,
+    with_value,
+};
 use rl_source_gather::jsx::{evaluate_element, evaluate_fragment};
 use rl_source_stack::control::Control;
 use rl_source_stack::run::Run;

@@ -3,5 +3,4 @@
 
 pub mod drive;
 pub mod source;
-pub mod through;
 pub mod unit;

@@ -1,9 +1,9 @@
 use Rattle.std.proofs.Common.{ap, refl, sym, ◌∙◌}
-use Rattle.rl_source_run.proofs.Passing.{passes}
+use Rattle.rl_source_frames.proofs.Passing.{passes}
 use Rattle.rl_source_stack.specs.Controls.{trace_of}
 use Rattle.rl_source_stack.specs.States.{pushed, state_of}
 use Rattle.rl_source_stack.specs.declared.control.Control.TheVariants as control
-use Rattle.rl_source_run.proofs.through.with_break.Goals as goal
+use Rattle.rl_source_frames.proofs.through.with_break.Goals as goal
 
 pub returns-in-Some-Value : goal.returns-in-Some-Value
 returns-in-Some-Value c =

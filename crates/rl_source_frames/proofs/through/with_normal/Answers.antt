@@ -1,8 +1,8 @@
 use Rattle.std.proofs.Common.{refl}
-use Rattle.rl_source_run.proofs.Passing.{passes, takes}
+use Rattle.rl_source_frames.proofs.Passing.{passes, takes}
 use Rattle.rl_source_stack.specs.States.{state_of}
 use Rattle.rl_source_stack.specs.declared.control.Control.TheVariants as control
-use Rattle.rl_source_run.proofs.through.with_normal.Goals as goal
+use Rattle.rl_source_frames.proofs.through.with_normal.Goals as goal
 
 pub returns-in-Some-Value : goal.returns-in-Some-Value
 returns-in-Some-Value c =
