@@ -4,13 +4,13 @@
 # has 4 events. By the graph it has 5 steps: three instructions and two ends of blocks. By the source it has 15: a step goes down to a part
 # of an expression or of a statement, or takes what a part gave to the innermost frame. A time holds what it takes to make the answers, and
 # of the graph also what it takes to make that. Much of the growth of long runs is fresh memory: their events lie side by side to the end.
-# Builds the program trace_timer, or takes the one at the path given.
+# Builds the program timer, or takes the one at the path given.
 set -eu
 program=${1:+$(realpath "$1")}
 cd "$(dirname "$0")/.."
 if [ -z "$program" ]; then
-    (cd crates/trace_timer && rt run > /dev/null)
-    program=$PWD/crates/trace_timer/out/trace_timer
+    (cd crates/timer && rt run < stdin > /dev/null)
+    program=$PWD/crates/timer/out/timer
 fi
 python3 - "$program" <<'TABLE'
 import subprocess, sys
@@ -19,7 +19,7 @@ print(f"{'by':8}{'turns':>8}{'events':>9}{'run, ms':>10}{'a turn':>9}{'a step':>
 smallest = {}
 for turns in [100, 10_000, 100_000]:
     runs = max(5, 200_000 // turns)
-    ran = subprocess.run([sys.argv[1], str(turns), str(runs)], capture_output=True, text=True, check=True)
+    ran = subprocess.run([sys.argv[1], "traces", str(turns), str(runs)], capture_output=True, text=True, check=True)
     for by, line in zip(STEPS, ran.stdout.splitlines()):
         events, least = map(int, line.split())
         turn = least / turns

@@ -6,19 +6,27 @@
 //! - `order TABLE SHAPE BLOCKS CALLS` makes a graph of about so many blocks in a table, `map` or `dense`, and as many calls of the ordering
 //!   and the passes. It writes the number of blocks and of steps, and of the shortest calls the nanoseconds of the ordering, of the three
 //!   removals, of the numbering, of the predecessors and of the whole sequence.
+//! - `traces TURNS RUNS` runs a loop of so many turns by its graph and by its source. It writes a line for each: the number of events, and of
+//!   the shortest run the nanoseconds.
 //!
-//! Without arguments it writes of the unit for `scopes` and `names` the part and the numbers that it writes for 0 calls; and for a small
-//! graph of each shape its shape, its blocks, those that the ordering keeps, and the steps that it takes.
+//! Without arguments it writes of the unit for `scopes` and `names` the part and the numbers that it writes for 0 calls; for a small
+//! graph of each shape its shape, its blocks, those that the ordering keeps, and the steps that it takes; and the traces of two turns of
+//! the loop.
 #![tactic(auto)]
 
 mod counted;
 mod graph;
+mod loop_answers;
+mod loop_graph;
+mod loop_source;
+mod loop_times;
 mod names;
 mod order;
 mod scopes;
 mod sequence;
 mod shapes;
 mod tables;
+mod traces;
 
 use crate::order::MadeGraph;
 use crate::shapes::Shape;
@@ -29,12 +37,13 @@ use rl_base::io::read_up_to;
 use rl_base::streams::StdIn;
 use std::env;
 
-/// A part of the front end, and the number of calls to time.
+/// A part of the front end, and the number of calls or runs to time.
 #[derive(Clone, Copy)]
 enum Wanted {
     Scopes(u32),
     Names(u32),
     Order(MadeGraph),
+    Traces { turns: u32, runs: u32 },
 }
 
 /// The number that an argument spells.
@@ -64,6 +73,11 @@ fn read_arguments(rt: &HostRuntime) -> Result<Option<Wanted>> {
             size,
             calls,
         })));
+    }
+    if part.as_str() == "traces" {
+        let turns = read_number(words.next())?;
+        let runs = read_number(words.next())?;
+        return Ok(Some(Wanted::Traces { turns, runs }));
     }
     let calls = read_number(words.next())?;
     if part.as_str() == "scopes" {
@@ -103,7 +117,8 @@ fn print_counts(rt: &HostRuntime) -> Result<()> {
     scopes::report(rt, &bytes, 0)?;
     print!(rt; "names ")?;
     names::report(rt, &bytes, 0)?;
-    order::print_steps(rt)
+    order::print_steps(rt)?;
+    traces::print_traces(rt)
 }
 
 fn main(rt: HostRuntime) -> Result<()> {
@@ -111,6 +126,7 @@ fn main(rt: HostRuntime) -> Result<()> {
         Some(Wanted::Scopes(calls)) => time_scopes(&rt, calls),
         Some(Wanted::Names(calls)) => time_names(&rt, calls),
         Some(Wanted::Order(graph)) => order::print_times(&rt, &graph),
+        Some(Wanted::Traces { turns, runs }) => traces::print_times(&rt, turns, runs),
         None => print_counts(&rt),
     }
 }

@@ -1,4 +1,4 @@
-use Rattle.trace_timer.proofs.graph.times_of.Given as goal
+use Rattle.timer.proofs.loop_graph.trace_of.Given as goal
 
 abbrev pub ghosts-run_by : goal.ghosts-run_by
 ghosts-run_by a = record { name = a.blank.name; parts = a.blank.parts }

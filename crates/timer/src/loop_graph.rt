@@ -2,8 +2,8 @@
 
 ghost use Rattle.std.specs.Prelude.{◌≡◌, ◌<◌};
 
-use crate::answers::answers_of;
-use crate::times::Times;
+use crate::loop_answers::answers_of;
+use crate::loop_times::LoopTimes;
 use anyhow::Result;
 use rl_base::error::OutOfMemory;
 use rl_base::ids::{BlockId, EvaluationOrder, IdentifierId, InstructionId, TypeId};
@@ -194,7 +194,7 @@ pub fn trace_of(alloc: Global, turns: u32) -> Result<Trace> {
 
 /// The number of events of so many turns, and of the shortest of `runs` runs the nanoseconds, with the time to make the graph and the
 /// answers. The longest duration without a run.
-pub fn times_of(rt: &HostRuntime, turns: u32, runs: u32) -> Result<Times> {
+pub fn times_of(rt: &HostRuntime, turns: u32, runs: u32) -> Result<LoopTimes> {
     let mut least = Duration::MAX;
     let mut events = 0;
     for _run in 0..runs {
@@ -203,5 +203,5 @@ pub fn times_of(rt: &HostRuntime, turns: u32, runs: u32) -> Result<Times> {
         least = least.min(start.elapsed(rt)?);
         events = trace.events.len();
     }
-    Ok(Times { events, least })
+    Ok(LoopTimes { events, least })
 }

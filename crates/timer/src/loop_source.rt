@@ -3,8 +3,8 @@
 ghost use Rattle.rl_syntax.specs.Syntax.{syntax};
 ghost use Rattle.rl_worlds.specs.Units.{IsSemanticOf};
 
-use crate::answers::answers_of;
-use crate::times::Times;
+use crate::loop_answers::answers_of;
+use crate::loop_times::LoopTimes;
 use anyhow::Result;
 use rl_ast::read::read_tree;
 use rl_ast::unit::Unit;
@@ -48,7 +48,7 @@ pub fn trace_of(alloc: Global, turns: u32) -> Result<Trace> {
 
 /// The number of events of so many turns, and of the shortest of `runs` runs the nanoseconds, with the time to make the answers. The
 /// longest duration without a run.
-pub fn times_of(rt: &HostRuntime, turns: u32, runs: u32) -> Result<Times> {
+pub fn times_of(rt: &HostRuntime, turns: u32, runs: u32) -> Result<LoopTimes> {
     let unit = read_tree(rt.alloc(), UNIT.as_bytes())?;
     let semantic = Semantic::of(rt.alloc(), &unit)?;
     let mut least = Duration::MAX;
@@ -59,5 +59,5 @@ pub fn times_of(rt: &HostRuntime, turns: u32, runs: u32) -> Result<Times> {
         least = least.min(start.elapsed(rt)?);
         events = trace.events.len();
     }
-    Ok(Times { events, least })
+    Ok(LoopTimes { events, least })
 }
