@@ -49,12 +49,27 @@ def blocks(text):
     return [line for line in lines if line.startswith("use ") and "as goal" not in line], [it for it in body.split("\n\n") if it.strip()]
 
 
+def merged(lines):
+    """The `use` lines with each name once."""
+    names, others = {}, []
+    for line in lines:
+        found = re.fullmatch(r"use (\S+)\.\{(.*)\}", line)
+        if found:
+            names.setdefault(found.group(1), {}).update(dict.fromkeys(found.group(2).split(", ")))
+        elif line not in others:
+            others.append(line)
+    return [f"use {module}.{{{', '.join(its)}}}" for module, its in names.items()] + others
+
+
 def part(folder, cycle, named, file, goals):
     """Writes the answers or invariants of the named functions into folders of their own."""
     source = folder / f"+{cycle}" / file
     if not source.is_file():
         return
-    uses, all_blocks = blocks(source.read_text())
+    # Answers that stand by module, in a folder of the file's name, are only named in the file.
+    parts = [blocks(it.read_text()) for it in sorted(source.with_suffix("").glob("*.antt")) or [source]]
+    uses = merged([line for lines, _ in parts for line in lines])
+    all_blocks = [it for _, found in parts for it in found]
     common = [it.strip("\n") for it in all_blocks if not GOAL.search(it)]
     for function in named:
         own = []
