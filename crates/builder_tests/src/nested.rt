@@ -71,8 +71,8 @@ pub fn inner<U: ReadsUnit>(alloc: Global, builder: &mut Builder<'_, U>) -> Resul
 
 /// Appends the kinds of blocks.
 fn push_kinds(alloc: Global, text: &mut String, blocks: &GraphBlocks) -> Result<(), OutOfMemory> {
-    for place in 0..blocks.len() {
-        let (_, block) = blocks.at(place);
+    for index in 0..blocks.len() {
+        let (_, block) = blocks.at(index);
         push_kind(alloc, text, block.kind)?;
     }
     Ok(())

@@ -23,11 +23,11 @@ use Rattle.rl_graph_steps.specs.States.{State, took, takes}
 use Rattle.rl_graph_steps.proofs.Taken.{takes_values}
 
 -- The positions from a block on are those of the block and those behind it.
-pub one_more : (pairs : List Pair) (place : ℕ) (p : Pair) → slice_get pairs place ≡ Some p
-    → positions (drop place pairs) ≡ 1 + length p.1.instructions + positions (drop (place + 1) pairs)
-one_more pairs place p there =
-    at_drop_more positions pairs place p (slice_get_within pairs place p there)
-    ∙ ap (λ (q : Pair). positions (q ∷ drop (place + 1) pairs)) (get_or_from_slice_get pairs place p p there)
+pub one_more : (pairs : List Pair) (index : ℕ) (p : Pair) → slice_get pairs index ≡ Some p
+    → positions (drop index pairs) ≡ 1 + length p.1.instructions + positions (drop (index + 1) pairs)
+one_more pairs index p there =
+    at_drop_more positions pairs index p (slice_get_within pairs index p there)
+    ∙ ap (λ (q : Pair). positions (q ∷ drop (index + 1) pairs)) (get_or_from_slice_get pairs index p p there)
 
 turned : (a b : ℕ) → a + b ≡ b + a
 turned a b = omega arith
@@ -50,9 +50,9 @@ fuel_steps answers most = sym (steps_are answers most)
 pub sum_on : (count all len n rest here : ℕ) → count + here ≡ all → here ≡ 1 + n + rest → len ≡ 1 + n → count + len + rest ≡ all
 sum_on count all len n rest here so_far one same = omega (arith, so_far, one, same)
 
-pub room_on : (count place len : ℕ) → count ≤ place * 18446744073709551616 → len ≤ 18446744073709551616
-    → count + len ≤ (place + 1) * 18446744073709551616
-room_on count place len room fits = omega (arith, room, fits)
+pub room_on : (count index len : ℕ) → count ≤ index * 18446744073709551616 → len ≤ 18446744073709551616
+    → count + len ≤ (index + 1) * 18446744073709551616
+room_on count index len room fits = omega (arith, room, fits)
 
 -- A fact of the fuel and the state in which a run of a function begins, from those with which it did.
 pub at_start : {X : Type 0} → (run : (most steps quiet : ℕ) → State → X) (f : HirFunction (List Pair)) (shared : Shared)

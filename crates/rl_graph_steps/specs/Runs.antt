@@ -20,21 +20,21 @@ tick = record { kind = codes "tick"; texts = []; operands = [] }
 
 -- As `exec` of rl_machine, with a tick in front of each step that is made.
 abbrev pub ticking : Code → (most steps quiet : ℕ) → Next
-ticking code most zero quiet id place store notes answers = waiting
-ticking code most (suc steps) zero id place store notes answers =
-    emit tick (step waiting code (code.item id place) (no_way waiting) (ticking code most steps most) id place store notes answers)
-ticking code most (suc steps) (suc quiet) id place store notes answers =
-    emit tick (step waiting code (code.item id place) (ticking code most steps quiet) (ticking code most steps most) id place store notes answers)
+ticking code most zero quiet id index store notes answers = waiting
+ticking code most (suc steps) zero id index store notes answers =
+    emit tick (step waiting code (code.item id index) (no_way waiting) (ticking code most steps most) id index store notes answers)
+ticking code most (suc steps) (suc quiet) id index store notes answers =
+    emit tick (step waiting code (code.item id index) (ticking code most steps quiet) (ticking code most steps most) id index store notes answers)
 
 -- The number of steps that a run makes: its trace with ticks has so many events more than its trace.
-abbrev pub made : Code → (most steps quiet id place : ℕ) → Store → Notes → List Answer → ℕ
-made code most steps quiet id place store notes answers =
-    length (ticking code most steps quiet id place store notes answers).events
-    - length (exec waiting code most steps quiet id place store notes answers).events
+abbrev pub made : Code → (most steps quiet id index : ℕ) → Store → Notes → List Answer → ℕ
+made code most steps quiet id index store notes answers =
+    length (ticking code most steps quiet id index store notes answers).events
+    - length (exec waiting code most steps quiet id index store notes answers).events
 
 -- The trace of a state's run from a point, and the number of its steps.
-abbrev pub runs : (most steps quiet id place : ℕ) → State → Trace
-runs most steps quiet id place s = after s.seen.events (exec waiting (code s) most steps quiet id place s.seen.store s.notes s.seen.answers)
+abbrev pub runs : (most steps quiet id index : ℕ) → State → Trace
+runs most steps quiet id index s = after s.seen.events (exec waiting (code s) most steps quiet id index s.seen.store s.notes s.seen.answers)
 
-abbrev pub made_by : (most steps quiet id place : ℕ) → State → ℕ
-made_by most steps quiet id place s = made (code s) most steps quiet id place s.seen.store s.notes s.seen.answers
+abbrev pub made_by : (most steps quiet id index : ℕ) → State → ℕ
+made_by most steps quiet id index s = made (code s) most steps quiet id index s.seen.store s.notes s.seen.answers

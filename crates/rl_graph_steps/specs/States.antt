@@ -58,8 +58,8 @@ with_seen s q = record s { seen = q }
 
 -- The trace behind a step: the run goes on silently or loudly, or ends.
 abbrev pub came : Ahead → Goes → State → Trace
-came ahead (goes.Silently b place) s = after s.seen.events (ahead.silent (code s) b.0 place s.seen.store s.notes s.seen.answers)
-came ahead (goes.Loudly b place) s = after s.seen.events (ahead.loud (code s) b.0 place s.seen.store s.notes s.seen.answers)
+came ahead (goes.Silently b index) s = after s.seen.events (ahead.silent (code s) b.0 index s.seen.store s.notes s.seen.answers)
+came ahead (goes.Loudly b index) s = after s.seen.events (ahead.loud (code s) b.0 index s.seen.store s.notes s.seen.answers)
 came ahead (goes.Returned variant v) s = after s.seen.events (returned (kept_in s.seen) variant (shown v))
 came ahead (goes.Threw v) s = after s.seen.events (threw (shown v))
 came ahead goes.Waiting s = after s.seen.events waiting
@@ -100,26 +100,26 @@ abbrev pub throws_to : Ahead → (handler : Option ℕ) → Value → State → 
 throws_to ahead handler v s = after s.seen.events (caught waiting handler s.notes (ahead.loud (code s)) v s.seen.store s.seen.answers)
 
 -- An event of an instruction, whose answer lands so.
-abbrev pub fires : Ahead → Event → Landing → (id place : ℕ) → State → Trace
-fires ahead event landing id place s =
-    after s.seen.events (fired (change_of s.seen) event s.seen.store s.seen.answers (λ a later rest. ahead.loud (code s) id (place + 1)
+abbrev pub fires : Ahead → Event → Landing → (id index : ℕ) → State → Trace
+fires ahead event landing id index s =
+    after s.seen.events (fired (change_of s.seen) event s.seen.store s.seen.answers (λ a later rest. ahead.loud (code s) id (index + 1)
     (landed landing a later) s.notes rest)
     (caught waiting ((code s).catcher id) s.notes (ahead.loud (code s))))
 
 -- The effect of an instruction.
-abbrev pub executes : Ahead → Act → (id place : ℕ) → State → Trace
-executes ahead act id place s =
-    after s.seen.events (executed waiting (code s) act (ahead.silent (code s)) (ahead.loud (code s)) id place s.seen.store s.notes s.seen.answers)
+abbrev pub executes : Ahead → Act → (id index : ℕ) → State → Trace
+executes ahead act id index s =
+    after s.seen.events (executed waiting (code s) act (ahead.silent (code s)) (ahead.loud (code s)) id index s.seen.store s.notes s.seen.answers)
 
 -- A step of a loop, behind which a block comes.
-abbrev pub steps_to : Ahead → (behind : Option BlockId) → Event → (result id place : ℕ) → State → Trace
-steps_to ahead behind event result id place s =
-    after s.seen.events (step_to waiting (code s) behind event result (ahead.loud (code s)) id place s.seen.store s.notes s.seen.answers)
+abbrev pub steps_to : Ahead → (behind : Option BlockId) → Event → (result id index : ℕ) → State → Trace
+steps_to ahead behind event result id index s =
+    after s.seen.events (step_to waiting (code s) behind event result (ahead.loud (code s)) id index s.seen.store s.notes s.seen.answers)
 
 -- Asks for an iterator, by the note at the block.
-abbrev pub opens_by : Ahead → Option ends.Note → Event → (result id place : ℕ) → State → Trace
-opens_by ahead note event result id place s =
-    after s.seen.events (opened waiting (code s) note event result (ahead.silent (code s)) (ahead.loud (code s)) id place s.seen.store s.notes s.seen.answers)
+abbrev pub opens_by : Ahead → Option ends.Note → Event → (result id index : ℕ) → State → Trace
+opens_by ahead note event result id index s =
+    after s.seen.events (opened waiting (code s) note event result (ahead.silent (code s)) (ahead.loud (code s)) id index s.seen.store s.notes s.seen.answers)
 
 -- The comparison of a value with that of a case.
 abbrev pub test_of : State → (value : ℕ) → Place → Event
@@ -176,12 +176,12 @@ takes [] t = t
 takes (id ∷ ids) t = takes ids (took (rest_of t.left) (given (id ∷ []) (first_of t.left) t.state))
 
 -- A step by an item.
-abbrev pub steps_by : Ahead → Option Item → (id place : ℕ) → State → Trace
-steps_by ahead item id place s =
-    after s.seen.events (step waiting (code s) item (ahead.silent (code s)) (ahead.loud (code s)) id place s.seen.store s.notes s.seen.answers)
+abbrev pub steps_by : Ahead → Option Item → (id index : ℕ) → State → Trace
+steps_by ahead item id index s =
+    after s.seen.events (step waiting (code s) item (ahead.silent (code s)) (ahead.loud (code s)) id index s.seen.store s.notes s.seen.answers)
 
-abbrev pub steps_at : Ahead → (id place : ℕ) → State → Trace
-steps_at ahead id place s = steps_by ahead ((code s).item id place) id place s
+abbrev pub steps_at : Ahead → (id index : ℕ) → State → Trace
+steps_at ahead id index s = steps_by ahead ((code s).item id index) id index s
 
 -- The item that was found at a program point.
 abbrev pub item_of : Option Found → Option Item
@@ -191,8 +191,8 @@ item_of (Some (found.Ends t)) = Some (machine.Ends t.now)
 
 -- The trace of a run that ended. One that has not ended waits.
 abbrev pub ended : Goes → State → Trace
-ended (goes.Silently b place) s = after s.seen.events waiting
-ended (goes.Loudly b place) s = after s.seen.events waiting
+ended (goes.Silently b index) s = after s.seen.events waiting
+ended (goes.Loudly b index) s = after s.seen.events waiting
 ended (goes.Returned variant v) s = after s.seen.events (returned (kept_in s.seen) variant (shown v))
 ended (goes.Threw v) s = after s.seen.events (threw (shown v))
 ended goes.Waiting s = after s.seen.events waiting

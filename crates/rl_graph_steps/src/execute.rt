@@ -20,13 +20,13 @@ use rl_machine::trace::{Answer, AnswerKind, Event, Value};
 use rl_trace::value::Val;
 
 /// The index behind one. No block lists so many instructions that there is none; where there were, it is told as `OutOfMemory`.
-fn index_behind(place: usize) -> Result<usize, OutOfMemory>
-    ensures { IfOk result (λ next. next ≡ place + 1) }
+fn index_behind(index: usize) -> Result<usize, OutOfMemory>
+    ensures { IfOk result (λ next. next ≡ index + 1) }
 {
-    if place == usize::MAX {
+    if index == usize::MAX {
         return Err(OutOfMemory);
     }
-    Ok(place + 1)
+    Ok(index + 1)
 }
 
 impl<'b> Machine<'b> {
@@ -194,20 +194,20 @@ impl<'b> Machine<'b> {
         event: Event,
         landing: Landing<'b>,
         block: BlockId,
-        place: usize,
+        index: usize,
     ) -> Result<Goes<'b>, OutOfMemory>
         ensures { IfOk result (λ g. (ahead : Ahead) → came ahead g (state_of self.now run.new)
-            ≡ fires ahead event (landing_of landing.entry) block.0 place (state_of self.now run.old)) }
+            ≡ fires ahead event (landing_of landing.entry) block.0 index (state_of self.now run.old)) }
     {
         match run.progress.ask(event)? {
             Some(answer) => match answer.kind {
                 AnswerKind::Yes => {
                     self.land(run, landing, answer)?;
-                    Ok(Goes::Loudly(block, index_behind(place)?))
+                    Ok(Goes::Loudly(block, index_behind(index)?))
                 }
                 AnswerKind::No => {
                     self.land(run, landing, answer)?;
-                    Ok(Goes::Loudly(block, index_behind(place)?))
+                    Ok(Goes::Loudly(block, index_behind(index)?))
                 }
                 AnswerKind::Throw => self.throw(run, block, Val::of(&answer.value)),
             },
@@ -223,13 +223,13 @@ impl<'b> Machine<'b> {
         fallthrough: BlockId,
         target: IdentifierId,
         block: BlockId,
-        place: usize,
+        index: usize,
     ) -> Result<Goes<'b>, OutOfMemory>
         ensures { IfOk result (λ g. (ahead : Ahead) → came ahead g (state_of self.now run.new)
-            ≡ opens_by ahead (Some (Iterates fallthrough false)) event target.0 block.0 place (state_of self.now run.old)) }
+            ≡ opens_by ahead (Some (Iterates fallthrough false)) event target.0 block.0 index (state_of self.now run.old)) }
     {
         self.note(run, block, Note::Iterates(fallthrough, true))?;
-        self.fire(run, event, Landing::Gives(Into::One(target)), block, place)
+        self.fire(run, event, Landing::Gives(Into::One(target)), block, index)
     }
 
     /// Asks for an iterator, if the loop has none. On `OutOfMemory` an allocation failed.
@@ -239,15 +239,15 @@ impl<'b> Machine<'b> {
         event: Event,
         target: IdentifierId,
         block: BlockId,
-        place: usize,
+        index: usize,
     ) -> Result<Goes<'b>, OutOfMemory>
         ensures { IfOk result (λ g. (ahead : Ahead) → came ahead g (state_of self.now run.new)
-            ≡ executes ahead (acts.Opens event target.0) block.0 place (state_of self.now run.old)) }
+            ≡ executes ahead (acts.Opens event target.0) block.0 index (state_of self.now run.old)) }
     {
         match run.notes.get(block) {
-            Some(Note::Iterates(_, true)) => Ok(Goes::Silently(block, index_behind(place)?)),
+            Some(Note::Iterates(_, true)) => Ok(Goes::Silently(block, index_behind(index)?)),
             Some(Note::Iterates(fallthrough, false)) => {
-                self.open_new(run, event, fallthrough, target, block, place)
+                self.open_new(run, event, fallthrough, target, block, index)
             }
             Some(Note::Connects(_)) => Ok(Goes::Waiting),
             Some(Note::Chooses) => Ok(Goes::Waiting),
@@ -268,16 +268,16 @@ impl<'b> Machine<'b> {
         behind: BlockId,
         target: IdentifierId,
         block: BlockId,
-        place: usize,
+        index: usize,
     ) -> Result<Goes<'b>, OutOfMemory>
         ensures { IfOk result (λ g. (ahead : Ahead) → came ahead g (state_of self.now run.new)
-            ≡ steps_to ahead (Some behind) event target.0 block.0 place (state_of self.now run.old)) }
+            ≡ steps_to ahead (Some behind) event target.0 block.0 index (state_of self.now run.old)) }
     {
         match run.progress.ask(event)? {
             Some(answer) => match answer.kind {
                 AnswerKind::Yes => {
                     self.set(run, target, Val::of(&answer.value))?;
-                    Ok(Goes::Loudly(block, index_behind(place)?))
+                    Ok(Goes::Loudly(block, index_behind(index)?))
                 }
                 AnswerKind::No => Ok(Goes::Loudly(behind, 0)),
                 AnswerKind::Throw => self.throw(run, block, Val::of(&answer.value)),
@@ -293,15 +293,15 @@ impl<'b> Machine<'b> {
         event: Event,
         target: IdentifierId,
         block: BlockId,
-        place: usize,
+        index: usize,
     ) -> Result<Goes<'b>, OutOfMemory>
         ensures { IfOk result (λ g. (ahead : Ahead) → came ahead g (state_of self.now run.new)
-            ≡ executes ahead (acts.Steps event target.0) block.0 place (state_of self.now run.old)) }
+            ≡ executes ahead (acts.Steps event target.0) block.0 index (state_of self.now run.old)) }
     {
         match run.notes.get(block) {
-            Some(Note::Loops(behind)) => self.step(run, event, behind, target, block, place),
-            Some(Note::Enumerates(behind)) => self.step(run, event, behind, target, block, place),
-            Some(Note::Iterates(behind, _)) => self.step(run, event, behind, target, block, place),
+            Some(Note::Loops(behind)) => self.step(run, event, behind, target, block, index),
+            Some(Note::Enumerates(behind)) => self.step(run, event, behind, target, block, index),
+            Some(Note::Iterates(behind, _)) => self.step(run, event, behind, target, block, index),
             Some(Note::Connects(_)) => Ok(Goes::Waiting),
             Some(Note::Chooses) => Ok(Goes::Waiting),
             Some(Note::Chains(_)) => Ok(Goes::Waiting),
@@ -316,30 +316,30 @@ impl<'b> Machine<'b> {
         &self,
         run: &mut Run<'b>,
         block: BlockId,
-        place: usize,
+        index: usize,
         instruction: &'b Instruction,
     ) -> Result<Goes<'b>, OutOfMemory>
         ensures { IfOk result (λ g. (ahead : Ahead) → came ahead g (state_of self.now run.new)
             ≡ executes ahead (act instruction.entry.now.lvalue.identifier.0 instruction.entry.now.value
-            (state_of self.now run.old).seen.store) block.0 place (state_of self.now run.old)) }
+            (state_of self.now run.old).seen.store) block.0 index (state_of self.now run.old)) }
     {
         let target = instruction.lvalue.identifier;
         match self.act(run, target, &instruction.value) {
             Act::Computes(value, into) => {
                 self.give(run, into, value)?;
-                Ok(Goes::Silently(block, index_behind(place)?))
+                Ok(Goes::Silently(block, index_behind(index)?))
             }
             Act::Asks(landing) => {
                 let event = event(&run.progress, &instruction.value)?;
-                self.fire(run, event, landing, block, place)
+                self.fire(run, event, landing, block, index)
             }
             Act::Opens => {
                 let event = event(&run.progress, &instruction.value)?;
-                self.open(run, event, target, block, place)
+                self.open(run, event, target, block, index)
             }
             Act::Steps => {
                 let event = event(&run.progress, &instruction.value)?;
-                self.step_at(run, event, target, block, place)
+                self.step_at(run, event, target, block, index)
             }
         }
     }

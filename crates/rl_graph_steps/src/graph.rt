@@ -37,8 +37,8 @@ fn positions(blocks: &GraphBlocks) -> u128
     ensures fits { result < 340282366920938463463374607431768211455 }
 {
     let mut count = 0u128;
-    for place in 0..blocks.len() {
-        let (_, block) = blocks.at(place);
+    for index in 0..blocks.len() {
+        let (_, block) = blocks.at(index);
         let more = positions_in(block);
         count += more;
     }

@@ -107,17 +107,17 @@ impl<'b> Machine<'b> {
     }
 
     /// The item at an index of a block.
-    pub fn item(&self, block: BlockId, place: usize) -> Option<Found<'b>>
-        ensures { item_of result ≡ item_at self.now.table.now (block_of self.now.blocks.now block.0) place }
+    pub fn item(&self, block: BlockId, index: usize) -> Option<Found<'b>>
+        ensures { item_of result ≡ item_at self.now.table.now (block_of self.now.blocks.now block.0) index }
     {
         match self.blocks.get(block) {
-            Some(found) => match found.instructions.get(place) {
+            Some(found) => match found.instructions.get(index) {
                 Some(number) => match self.table.get(number.0 as usize) {
                     Some(instruction) => Some(Found::Runs(instruction)),
                     None => None,
                 },
                 None => {
-                    if place == found.instructions.len() {
+                    if index == found.instructions.len() {
                         return Some(Found::Ends(&found.terminal));
                     }
                     None

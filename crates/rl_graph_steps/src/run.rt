@@ -17,12 +17,12 @@ impl<'b> Machine<'b> {
         &self,
         run: &mut Run<'b>,
         block: BlockId,
-        place: usize,
+        index: usize,
     ) -> Result<Goes<'b>, OutOfMemory>
-        ensures { IfOk result (λ g. (ahead : Ahead) → came ahead g (state_of self.now run.new) ≡ steps_at ahead block.0 place (state_of self.now run.old)) }
+        ensures { IfOk result (λ g. (ahead : Ahead) → came ahead g (state_of self.now run.new) ≡ steps_at ahead block.0 index (state_of self.now run.old)) }
     {
-        match self.item(block, place) {
-            Some(Found::Runs(instruction)) => self.execute(run, block, place, instruction),
+        match self.item(block, index) {
+            Some(Found::Runs(instruction)) => self.execute(run, block, index, instruction),
             Some(Found::Ends(terminal)) => self.leave(run, &terminal.kind),
             None => Ok(Goes::Waiting),
         }
@@ -44,23 +44,23 @@ impl<'b> Machine<'b> {
     {
         let mut left = fuel;
         let mut block = entry;
-        let mut place = 0;
+        let mut index = 0;
         'turns: while left.is_left() {
             left = left.spent();
             steps.tick();
-            match self.advance(run, block, place)? {
-                Goes::Silently(next, index) => {
+            match self.advance(run, block, index)? {
+                Goes::Silently(next, next_index) => {
                     if left.quiet == 0 {
                         return Ok(Goes::Waiting);
                     }
                     left.quiet -= 1;
                     block = next;
-                    place = index;
+                    index = next_index;
                 }
-                Goes::Loudly(next, index) => {
+                Goes::Loudly(next, next_index) => {
                     left.quiet = left.most;
                     block = next;
-                    place = index;
+                    index = next_index;
                 }
                 Goes::Returned(variant, value) => return Ok(Goes::Returned(variant, value)),
                 Goes::Threw(value) => return Ok(Goes::Threw(value)),

@@ -17,7 +17,7 @@ returns g c =
     let start = state_of m c.args.run.now in
     let over : steps_of c.turns.left ≡ 0 = none_left (steps_of c.turns.left) (λ some. false≢true (sym c.turns-test.false ∙ c.is_left.ensures.1 some)) in
     let done : HasEnded c.args.fuel c.args.entry.0 start c.args.steps.now (after (state_of m c.turns.run).seen.events waiting) c.turns.steps
-    = ends_over c.args.fuel c.args.entry.0 start c.args.steps.now c.turns.left c.turns.block.0 c.turns.place (state_of m c.turns.run)
+    = ends_over c.args.fuel c.args.entry.0 start c.args.steps.now c.turns.left c.turns.block.0 c.turns.index (state_of m c.turns.run)
     c.turns.steps c.turns.invariant over in
     record { trace = done.trace; steps = done.counted }
 
@@ -31,9 +31,9 @@ turns-preserved-in-Silently g c =
     let left = c.turns.left in
     let k = c.spent-left.result in
     let less : Spends left k = record { steps = c.spent-left.ensures.steps; most = c.spent-left.ensures.most; quiet = c.spent-left.ensures.quiet } in
-    goes_on f c.args.entry.0 start c.args.steps.now left (record k { quiet = k.quiet - 1 }) c.turns.block.0 c.turns.place
-    c.in-Silently.next.0 c.in-Silently.index old new c.turns.steps c.tick.new.self c.turns.invariant
-    (silently_on left k less _ c.in-Silently.next c.in-Silently.index c.turns.block.0 c.turns.place old new c.in-Silently.is
+    goes_on f c.args.entry.0 start c.args.steps.now left (record k { quiet = k.quiet - 1 }) c.turns.block.0 c.turns.index
+    c.in-Silently.next.0 c.in-Silently.next_index old new c.turns.steps c.tick.new.self c.turns.invariant
+    (silently_on left k less _ c.in-Silently.next c.in-Silently.next_index c.turns.block.0 c.turns.index old new c.in-Silently.is
     c.if-left-eq0.false c.in_ok-next.ensures)
     c.tick.ensures
 
@@ -47,9 +47,9 @@ turns-preserved g c =
     let left = c.turns.left in
     let k = c.spent-left.result in
     let less : Spends left k = record { steps = c.spent-left.ensures.steps; most = c.spent-left.ensures.most; quiet = c.spent-left.ensures.quiet } in
-    goes_on f c.args.entry.0 start c.args.steps.now left (record k { quiet = k.most }) c.turns.block.0 c.turns.place
-    c.in-Loudly.next.0 c.in-Loudly.index old new c.turns.steps c.tick.new.self c.turns.invariant
-    (loudly left k less _ c.in-Loudly.next c.in-Loudly.index c.turns.block.0 c.turns.place old new c.in-Loudly.is
+    goes_on f c.args.entry.0 start c.args.steps.now left (record k { quiet = k.most }) c.turns.block.0 c.turns.index
+    c.in-Loudly.next.0 c.in-Loudly.next_index old new c.turns.steps c.tick.new.self c.turns.invariant
+    (loudly left k less _ c.in-Loudly.next c.in-Loudly.next_index c.turns.block.0 c.turns.index old new c.in-Loudly.is
     c.in_ok-next.ensures)
     c.tick.ensures
 
@@ -64,8 +64,8 @@ returns-then-left-eq0 g c =
     let k = c.spent-left.result in
     let less : Spends left k = record { steps = c.spent-left.ensures.steps; most = c.spent-left.ensures.most; quiet = c.spent-left.ensures.quiet } in
     let done : HasEnded f c.args.entry.0 start c.args.steps.now (after new.seen.events waiting) c.tick.new.self = ends f c.args.entry.0 start c.args.steps.now left
-    c.turns.block.0 c.turns.place old c.turns.steps c.tick.new.self (after new.seen.events waiting) c.turns.invariant
-    (silently_out left k less _ c.in-Silently.next c.in-Silently.index c.turns.block.0 c.turns.place old new c.in-Silently.is
+    c.turns.block.0 c.turns.index old c.turns.steps c.tick.new.self (after new.seen.events waiting) c.turns.invariant
+    (silently_out left k less _ c.in-Silently.next c.in-Silently.next_index c.turns.block.0 c.turns.index old new c.in-Silently.is
     c.if-left-eq0.true c.in_ok-next.ensures)
     c.tick.ensures in
     record { trace = done.trace; steps = done.counted }
@@ -81,8 +81,8 @@ returns-in-Returned g c =
     let k = c.spent-left.result in
     let less : Spends left k = record { steps = c.spent-left.ensures.steps; most = c.spent-left.ensures.most; quiet = c.spent-left.ensures.quiet } in
     let done : HasEnded f c.args.entry.0 start c.args.steps.now (ended (goes.Returned c.in-Returned.variant c.in-Returned.value) new) c.tick.new.self = ends f c.args.entry.0 start c.args.steps.now left
-    c.turns.block.0 c.turns.place old c.turns.steps c.tick.new.self (ended (goes.Returned c.in-Returned.variant c.in-Returned.value) new) c.turns.invariant
-    (goes_out left k less _ (goes.Returned c.in-Returned.variant c.in-Returned.value) (ended (goes.Returned c.in-Returned.variant c.in-Returned.value) new) c.turns.block.0 c.turns.place old new c.in-Returned.is refl refl
+    c.turns.block.0 c.turns.index old c.turns.steps c.tick.new.self (ended (goes.Returned c.in-Returned.variant c.in-Returned.value) new) c.turns.invariant
+    (goes_out left k less _ (goes.Returned c.in-Returned.variant c.in-Returned.value) (ended (goes.Returned c.in-Returned.variant c.in-Returned.value) new) c.turns.block.0 c.turns.index old new c.in-Returned.is refl refl
     c.in_ok-next.ensures)
     c.tick.ensures in
     record { trace = done.trace; steps = done.counted }
@@ -98,8 +98,8 @@ returns-in-Threw g c =
     let k = c.spent-left.result in
     let less : Spends left k = record { steps = c.spent-left.ensures.steps; most = c.spent-left.ensures.most; quiet = c.spent-left.ensures.quiet } in
     let done : HasEnded f c.args.entry.0 start c.args.steps.now (ended (goes.Threw c.in-Threw.value) new) c.tick.new.self = ends f c.args.entry.0 start c.args.steps.now left
-    c.turns.block.0 c.turns.place old c.turns.steps c.tick.new.self (ended (goes.Threw c.in-Threw.value) new) c.turns.invariant
-    (goes_out left k less _ (goes.Threw c.in-Threw.value) (ended (goes.Threw c.in-Threw.value) new) c.turns.block.0 c.turns.place old new c.in-Threw.is refl refl
+    c.turns.block.0 c.turns.index old c.turns.steps c.tick.new.self (ended (goes.Threw c.in-Threw.value) new) c.turns.invariant
+    (goes_out left k less _ (goes.Threw c.in-Threw.value) (ended (goes.Threw c.in-Threw.value) new) c.turns.block.0 c.turns.index old new c.in-Threw.is refl refl
     c.in_ok-next.ensures)
     c.tick.ensures in
     record { trace = done.trace; steps = done.counted }
@@ -115,8 +115,8 @@ returns-in-Waiting g c =
     let k = c.spent-left.result in
     let less : Spends left k = record { steps = c.spent-left.ensures.steps; most = c.spent-left.ensures.most; quiet = c.spent-left.ensures.quiet } in
     let done : HasEnded f c.args.entry.0 start c.args.steps.now (ended (goes.Waiting) new) c.tick.new.self = ends f c.args.entry.0 start c.args.steps.now left
-    c.turns.block.0 c.turns.place old c.turns.steps c.tick.new.self (ended (goes.Waiting) new) c.turns.invariant
-    (goes_out left k less _ (goes.Waiting) (ended (goes.Waiting) new) c.turns.block.0 c.turns.place old new c.in-Waiting.is refl refl
+    c.turns.block.0 c.turns.index old c.turns.steps c.tick.new.self (ended (goes.Waiting) new) c.turns.invariant
+    (goes_out left k less _ (goes.Waiting) (ended (goes.Waiting) new) c.turns.block.0 c.turns.index old new c.in-Waiting.is refl refl
     c.in_ok-next.ensures)
     c.tick.ensures in
     record { trace = done.trace; steps = done.counted }

@@ -9,4 +9,4 @@ decreases-turns g l = steps_of l.left
 -- The run from here is the run from the entry, and the steps so far are counted.
 abbrev pub invariant-turns : goal.invariant-turns
 invariant-turns g l =
-    Holds l.fn.fuel l.fn.entry.0 (state_of l.self l.initial.run) l.initial.steps l.left l.block.0 l.place (state_of l.self l.run) l.steps
+    Holds l.fn.fuel l.fn.entry.0 (state_of l.self l.initial.run) l.initial.steps l.left l.block.0 l.index (state_of l.self l.run) l.steps
