@@ -78,10 +78,16 @@ fn push_kinds(alloc: Global, text: &mut String, blocks: &GraphBlocks) -> Result<
     Ok(())
 }
 
-/// The captures of a builder that captures `x`, of the offset 5.
-fn context_of_x(alloc: Global) -> Result<IndexMap<SymbolId, Span>, OutOfMemory> {
+/// Captures of `x` alone, of the offset 5.
+fn only_x(alloc: Global) -> Result<IndexMap<SymbolId, Span>, OutOfMemory> {
     let mut context = IndexMap::new(alloc);
     context.insert(X, Span { start: 5, end: 6 })?;
+    Ok(context)
+}
+
+/// The captures of a builder that captures `x`.
+fn context_of_x(alloc: Global) -> Result<IndexMap<SymbolId, Span>, OutOfMemory> {
+    let context = only_x(alloc)?;
     copy_context(&context)
 }
 
