@@ -1,5 +1,5 @@
 -- The conditions of `build` for the graph with an `if`: it is whole, its blocks list entries of the table, and its orders have room.
-use Rattle.std.proofs.Common.{◌≡◌, ◌<◌, ◌^◌, false, All, None, [], ◌∷◌, length, refl, ap, ◌∙◌, arith}
+use Rattle.std.proofs.Common.{◌≡◌, ◌<◌, false, All, None, [], ◌∷◌, length, refl, ap, ◌∙◌, arith}
 use Rattle.std.proofs.lemmas.List.Elements.{All-from_recursion, All-nil}
 use Rattle.builder_tests.specs.Branch.{with_empty_if}
 use Rattle.rl_base.specs.declared.ids.InstructionId.{InstructionId}
@@ -19,7 +19,6 @@ use Rattle.rl_hir.specs.declared.terminal.ReturnVariant.TheVariants as returns
 use Rattle.rl_hir.specs.declared.terminal.Terminal.{Terminal}
 use Rattle.rl_hir.specs.declared.terminal.TerminalKind.TheVariants as ends
 use Rattle.rl_order.proofs.WholeGraphs.{all_inside}
-use Rattle.rl_order.specs.Numbering.{orders_of}
 use Rattle.rl_order.specs.Walk.{IsWhole}
 
 -- An environment of nothing.
@@ -77,6 +76,3 @@ module _ (given : Given) where
   pub listed : All (λ p. All (λ id. id.0 < length (made given).table) p.1.instructions) (graph_of (made given))
   listed =
       All-from_recursion AreListed (graph_of (made given)) (All-nil IsEntry, (All-from_recursion IsEntry (record { 0 = 0 } ∷ []) (omega arith, tt), (All-nil IsEntry, tt)))
-
-  pub room : orders_of (graph_of (made given)) < 2 ^ 32
-  room = omega arith

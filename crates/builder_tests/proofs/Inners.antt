@@ -1,10 +1,8 @@
 -- The conditions of `build` for an inner function that returns undefined, and the states on the way.
-use Rattle.std.proofs.Common.{◌≡◌, ◌+◌, ◌<◌, ◌^◌, All, None, List, [], ◌∷◌, ◌++◌, length, refl, sym, ap, subst, length-append, ◌∙◌, arith}
-use Rattle.std.proofs.lemmas.List.Elements.{All-from_recursion}
+use Rattle.std.proofs.Common.{◌≡◌, ◌+◌, ◌<◌, ◌^◌, None, List, [], ◌∷◌, ◌++◌, length, refl, sym, ap, subst, length-append, ◌∙◌, arith}
 use Rattle.builder_tests.specs.Inner.{HasInner, IsInner, begun, given_by, made, returned, undefined}
 use Rattle.builder_tests.specs.Inner.{graph_of as inner_graph}
 use Rattle.rl_base.specs.declared.ids.BlockId.{BlockId}
-use Rattle.rl_base.specs.declared.ids.InstructionId.{InstructionId}
 use Rattle.rl_base.specs.declared.ids.ScopeId.{ScopeId}
 use Rattle.rl_base.specs.declared.ids.SymbolId.{SymbolId}
 use Rattle.rl_base.specs.declared.span.Span.{Span}
@@ -13,7 +11,6 @@ use Rattle.rl_builder.specs.Builder.{State, one_identifier_more, pushed, termina
 use Rattle.rl_builder.specs.Started.{Given}
 use Rattle.rl_builder.specs.Temporaries.{temporary}
 use Rattle.rl_context.specs.declared.site.Site.{Site}
-use Rattle.rl_hir.specs.Blocks.{Pair}
 use Rattle.rl_hir.specs.declared.environment.Environment.{Environment}
 use Rattle.rl_hir.specs.declared.function.Identifier.{Identifier}
 use Rattle.rl_hir.specs.declared.function.InnerFunction.{InnerFunction}
@@ -38,15 +35,6 @@ module _ (old : Environment) (given : Given) where
   pub whole : IsWhole (graph_of (made old given)) (made old given).entry
   whole = all_inside (graph_of (made old given)) entry 1 (omega arith) refl (let self = same_self entry in rw self refl)
 
-  abbrev IsFirst : InstructionId → Type 0
-  IsFirst id = id.0 < 1
-
-  abbrev AreListed : Pair → Type 0
-  AreListed p = All IsFirst p.1.instructions
-
-  pub listed : All (λ p. All (λ id. id.0 < length (made old given).table) p.1.instructions) (graph_of (made old given))
-  listed = All-from_recursion AreListed (graph_of (made old given)) (All-from_recursion IsFirst (record { 0 = 0 } ∷ []) (omega arith, tt), tt)
-
   pub room : orders_of (graph_of (made old given)) < 2 ^ 32
   room = omega arith
 
@@ -61,12 +49,6 @@ module _ (old : Environment) (given : Given) where
   module _ (s : State) (is : s ≡ made old given) where
     pub whole_at : IsWhole (graph_of s) s.entry
     whole_at = subst (λ (t : State). IsWhole (graph_of t) t.entry) (sym is) whole
-
-    pub listed_at : All (λ p. All (λ id. id.0 < length s.table) p.1.instructions) (graph_of s)
-    listed_at = subst (λ (t : State). All (λ (p : Pair). All (λ (id : InstructionId). id.0 < length t.table) p.1.instructions) (graph_of t)) (sym is) listed
-
-    pub room_at : orders_of (graph_of s) < 2 ^ 32
-    room_at = subst (λ (t : State). orders_of (graph_of t) < 2 ^ 32) (sym is) room
 
 -- The graph that was built, with one identifier more.
 pub is_inner : (old : Environment) (given : Given) (s : State) (graph : Graph) (env new : Environment) → s ≡ made old given → IsBuilt s graph env → new ≡ one_identifier_more env None → IsInner old given graph new

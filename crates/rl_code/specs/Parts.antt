@@ -1,6 +1,6 @@
 -- Parts of nodes, by their number and form.
 use Rattle.std.specs.Prelude.{ℕ, Option, Some, None, List, [], ◌∷◌}
-use Rattle.rl_syntax.specs.Syntax.{Syntax, Node, Listed, Said, Absent, Pieces, End, Then}
+use Rattle.rl_syntax.specs.Syntax.{Syntax, Node, Listed, Said, Pieces, End, Then}
 use Rattle.rl_syntax.specs.declared.word.Word.{Word}
 use Rattle.rl_syntax.specs.declared.word.Word.TheVariants as word
 
@@ -43,11 +43,6 @@ three _ = None
 abbrev pub third_of_three : Pieces → Option Syntax
 third_of_three (Then part (Then another (Then last End))) = Some last
 third_of_three _ = None
-
--- A tree, or `-` where there is none.
-abbrev pub or_absent : Option Syntax → Syntax
-or_absent (Some tree) = tree
-or_absent None = Absent
 
 -- Parameters and body of a function, by its parts.
 abbrev pub function_parts : Word → Pieces → Option (Syntax × Syntax)

@@ -93,9 +93,6 @@ module _ (s s2 s3 s5 : State) (label : Label) (collection test : Place) (span le
     behind_extends : Extends s5 finished
     behind_extends = last_extends s s2 s3 s5 l label (forin_end f span) test span part refl
 
-    pub forin_extends : Extends s (rounds_finished s5 s.env.next_block (s.env.next_block + 1 + 1) span test)
-    forin_extends = extends_then right_side (extends_then step_extends (extends_then gp behind_extends))
-
     abbrev R : Range
     R = between s finished
 

@@ -46,10 +46,6 @@ module _ (s s2 y s4 s5 : State) (label : Label) (again : BlockId) (update : Opti
   abbrev pub s1 : State
   s1 = for_numbered s
 
-  -- In the init, and behind it.
-  abbrev pub s0 : State
-  s0 = for_begun s
-
   abbrev pub xa : State
   xa = for_front s s2 part
 

@@ -59,11 +59,6 @@ update_extends s s2 s3 part other gu =
     x : State
     x = for_front s s2 part
 
--- The init, then the update: the body opens behind both.
-pub both_extends : (s s2 s3 : State) (part other : Span) → Extends (for_begun s) s2 → Extends (for_update s2 s.env.next_block part) s3
-    → Extends (for_numbered s) (for_front s s3 other)
-both_extends s s2 s3 part other gi gu = extends_then (init_extends s s2 part gi) (update_extends s s2 s3 part other gu)
-
 module _ (s y s4 s5 : State) (label : Label) (again : BlockId) (update : Option BlockId) (test : Place) (span part last : Span) where
   abbrev pub h : ℕ
   h = s.env.next_block

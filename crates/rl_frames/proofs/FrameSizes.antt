@@ -11,6 +11,7 @@ use Rattle.rl_frames.specs.Parts.{do_while_body, if_begun, if_finished, label_be
 use Rattle.rl_frames.specs.Parts.{for_begun, for_body, for_finished, for_test, for_update}
 use Rattle.rl_frames.specs.Parts.{logical_finished, logical_left, logical_place, logical_right, sequence_begun, ternary_begun, try_bound}
 use Rattle.rl_frames.specs.Parts.{try_finished, try_handler, try_started, while_begun, while_body, while_finished}
+use Rattle.rl_frames.specs.SwitchParts.{switch_begun}
 use Rattle.rl_hir.specs.declared.function.BlockKind.TheVariants as block
 use Rattle.rl_hir.specs.declared.instruction.InstructionKind.TheVariants as kind
 use Rattle.rl_hir.specs.declared.instruction.InstructionValue.TheVariants as values
@@ -159,3 +160,7 @@ logical_size s s2 s4 operator right_value left_value span left part alternate m 
     let begun = logical_begun_size s span left in
     let stored = stored_size s2 (logical_place s span) right_value part in
     omega (arith, a, b, begun, stored, size_pushed s4 (loads (logical_left s left) left_value span))
+
+-- The block behind a `switch` is numbered.
+pub switch_begun_size : (s : State) → size_of (switch_begun s) ≤ size_of s + 1
+switch_begun_size s = omega arith

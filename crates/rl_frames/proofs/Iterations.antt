@@ -156,9 +156,6 @@ module _ (s s2 s3 s5 : State) (label : Label) (collection test : Place) (span le
     tested_extends : Extends s st
     tested_extends = extends_then opened_extends test_extends
 
-    pub forof_extends : Extends s finished
-    forof_extends = extends_then tested_extends (extends_then next_extends (extends_then gp last_extends))
-
     made_iterator : length (with_temporary si collection.span).env.identifiers ≡ iterator + 1
     made_iterator = simp length-append (omega arith)
 

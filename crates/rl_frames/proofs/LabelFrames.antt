@@ -54,19 +54,8 @@ module _ (s s2 : State) (label : List ℕ) (span part : Span) where
     first_extends : Extends s (reserved (reserved s))
     first_extends = extends_then (extends_reserved s) (extends_reserved (reserved s))
 
-    left_scopes : take (length s2.scopes - 1) s2.scopes ≡ s.scopes
-    left_scopes = ap (λ (l : List JumpScope). take (length l - 1) l) g.scopes ∙ front_added s.scopes (label_scope s label)
-
-    aside_extends : Extends (reserved (reserved s)) shut
-    aside_extends =
-        aside (reserved (reserved s)) s2 (new_block (f + 1) block.Block) begun.scopes (take (length s2.scopes - 1) s2.scopes) s.handlers
-        s2.handlers (goto f gotos.Break part) left_scopes g.handlers g
-
     last_extends : Extends shut finished
     last_extends = extends_completed shut (label_end f span) (new_block f block.Block) (λ none. refl)
-
-    pub label_extends : Extends s finished
-    label_extends = extends_then first_extends (extends_then aside_extends last_extends)
 
     pub label_runs : (world : World) (d : Action (Unit {0})) → RunsStatement world d (label_begun s label) s2
         → RunsStatement world (labeled label d) s finished

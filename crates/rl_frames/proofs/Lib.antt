@@ -5,10 +5,8 @@ pub mod Enumerations
 pub mod ForBlocks
 pub mod ForFronts
 pub mod ForLives
-pub mod ForNotes
 pub mod ForRuns
 pub mod ForStates
-pub mod FrameNotes
 pub mod FrameSizes
 pub mod IfBlocks
 pub mod IfThenBlocks
@@ -33,13 +31,11 @@ pub mod RoundNotes
 pub mod RoundRuns
 pub mod RoundSizes
 pub mod RoundStates
-pub mod RoundStepless
 pub mod Sequences
 pub mod SwitchBlocks
 pub mod SwitchComposes
 pub mod SwitchLives
 pub mod SwitchMeant
-pub mod SwitchNotes
 pub mod SwitchRuns
 pub mod Ternaries
 pub mod Tries

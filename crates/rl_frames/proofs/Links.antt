@@ -1,5 +1,5 @@
 -- The run of the outermost link of an optional chain.
-use Rattle.std.proofs.Common.{◌≡◌, ℕ, ◌+◌, ◌<◌, ◌≤◌, List, [], ◌∷◌, length, length-append, Some, refl}
+use Rattle.std.proofs.Common.{◌≡◌, ◌+◌, ◌<◌, ◌≤◌, List, [], ◌∷◌, length, length-append, Some, refl}
 use Rattle.std.proofs.Common.{subst, arith}
 use Rattle.rl_builder.specs.Builder.{entered, innermost, new_block, reserved, with_temporary}
 use Rattle.rl_builder.specs.declared.blocks.WipBlock.{WipBlock}
@@ -17,7 +17,7 @@ use Rattle.rl_machine.specs.declared.trace.Value.TheVariants.{Undefined}
 use Rattle.rl_machine.specs.Ends.{Notes}
 use Rattle.rl_machine.specs.Traces.{Store, ValueCont, World}
 use Rattle.rl_model.specs.Actions.{Action, Ways, chained}
-use Rattle.rl_runs.proofs.Holes.{aside, computes_on, contained_hole, hole_goes}
+use Rattle.rl_runs.proofs.Holes.{computes_on, contained_hole, hole_goes}
 use Rattle.rl_runs.proofs.Links.{stores_on}
 use Rattle.rl_runs.proofs.Moves.{contained_before, extends_pushed, extends_reserved, extends_temporary, extends_then}
 use Rattle.rl_runs.proofs.Moves.{extends_value, value_free}
@@ -25,7 +25,6 @@ use Rattle.rl_runs.proofs.Steps.{set_same, since_set}
 use Rattle.rl_runs.specs.Continuations.{Agrees, Continues, SharesVariables, Since, Throws, TracesAt}
 use Rattle.rl_runs.specs.Continuations.{TracesFrom, between}
 use Rattle.rl_runs.specs.Facts.{HasSoundNames, Nobody}
-use Rattle.rl_runs.specs.Moves.{goto}
 use Rattle.rl_runs.specs.Simulation.{RunsExpression, RunsLink}
 
 -- The outermost link: a chain that ends early has the value undefined.
@@ -35,9 +34,6 @@ module _ (s finished : State) (span : Span) (g : Extends (chain_begun s span) fi
 
   abbrev pub sa : State
   sa = entered (reserved y) (new_block (s.env.next_block + 1 + 1) block.Value)
-
-  abbrev pub m : ℕ
-  m = length s.env.identifiers
 
   value_extends : Extends sa (chain_undefined s span)
   value_extends = extends_value sa (values.Primitive primitives.Undefined) (Some span)
@@ -51,15 +47,6 @@ module _ (s finished : State) (span : Span) (g : Extends (chain_begun s span) fi
   first_extends =
       extends_then (extends_reserved s)
       (extends_then (extends_reserved (reserved s)) (extends_temporary (reserved (reserved s)) (Some span)))
-
-  chain_extends : Extends (reserved y) (chain_begun s span)
-  chain_extends =
-      aside (reserved y) (chain_ended s span) (new_block (s.env.next_block + 1 + 1) block.Value) s.scopes
-      (chain_ended s span).scopes s.handlers (chain_ended s span).handlers
-      (goto s.env.next_block gotos.Break span) within.scopes within.handlers within
-    where
-      within : Extends sa (chain_ended s span)
-      within = extends_then value_extends moved_extends
 
   made_y : length y.env.identifiers ≡ length s.env.identifiers + 1
   made_y = simp length-append (omega arith)

@@ -1,15 +1,14 @@
 -- The runs of a logical expression.
-use Rattle.std.proofs.Common.{◌≡◌, ℕ, ◌+◌, ◌<◌, ◌≤◌, false, inl, List, [], ◌∷◌, length, length-append, Option, Some, refl, sym, ◌∙◌}
+use Rattle.std.proofs.Common.{◌≡◌, ℕ, ◌+◌, ◌<◌, ◌≤◌, inl, List, [], ◌∷◌, length, length-append, Option, Some, refl, sym, ◌∙◌}
 use Rattle.std.proofs.Common.{subst, arith}
 use Rattle.rl_base.specs.declared.operator.LogicalOperator.{LogicalOperator}
 use Rattle.rl_base.specs.declared.operator.LogicalOperator.TheVariants as logical
 use Rattle.rl_builder.specs.Builder.{innermost, new_block, pushed, reserved, with_temporary}
 use Rattle.rl_builder.specs.Temporaries.{temporary, unordered}
-use Rattle.rl_frames.proofs.Common.{BlockId, Code, Extends, IsContainedIn, IsLedTo, Place, Span, State}
+use Rattle.rl_frames.proofs.Common.{BlockId, Code, Extends, IsContainedIn, Place, Span, State}
 use Rattle.rl_frames.specs.Meanings.{connected, decided}
 use Rattle.rl_frames.specs.Parts.{loads, logical_begun, logical_end, logical_entered, logical_finished, logical_left, logical_place}
 use Rattle.rl_frames.specs.Parts.{logical_reserved, logical_right}
-use Rattle.rl_hir.specs.Blocks.{same_id}
 use Rattle.rl_hir.specs.declared.function.BlockKind.TheVariants as block
 use Rattle.rl_hir.specs.declared.instruction.InstructionKind.TheVariants as kind
 use Rattle.rl_hir.specs.declared.instruction.InstructionValue.TheVariants as values
@@ -20,16 +19,13 @@ use Rattle.rl_machine.specs.Ends.{Connects, Note, Notes, choice, noted}
 use Rattle.rl_machine.specs.Machine.{Ends, at, branched, changer, choice_at}
 use Rattle.rl_machine.specs.Traces.{Cont, Store, ValueCont, World, nullish, set, set_open, tested, truthy}
 use Rattle.rl_model.specs.Actions.{Action, Ways}
-use Rattle.rl_order.proofs.Ordering.{or_left, same_self}
 use Rattle.rl_runs.proofs.Events.{tests_come}
 use Rattle.rl_runs.proofs.FinalNames.{nobody_fresh}
 use Rattle.rl_runs.proofs.Holes.{aside, contained_hole, hole_goes, same_throws, use_expression}
 use Rattle.rl_runs.proofs.Links.{stores_on}
 use Rattle.rl_runs.proofs.Moves.{contained_before, extends_completed, extends_pushed, extends_reserved, extends_temporary, extends_then}
 use Rattle.rl_runs.proofs.Moves.{extends_value, goes_on, inside, push_runs, terminal_met}
-use Rattle.rl_runs.proofs.Passing.{passes_pushed}
 use Rattle.rl_runs.proofs.Steps.{inside_refl, noted_same, set_same, since_noted, since_set, since_start, since_then, steps_on}
-use Rattle.rl_runs.specs.Blocks.{Leads, Passes}
 use Rattle.rl_runs.specs.Continuations.{IsBehind, SharesVariables, Agrees, Continues, Eventually, Since, Throws, TracesAt, TracesFrom}
 use Rattle.rl_runs.specs.Continuations.{between, Inside}
 use Rattle.rl_runs.specs.Facts.{AreOne, HasSoundNames, Nobody}
@@ -158,9 +154,6 @@ module _ (s s2 s4 : State) (operator : LogicalOperator) (right_value left_value 
 
     end_extends : Extends sl finished
     end_extends = extends_then gl (extends_then (extends_pushed s4 (loads tested_place left_value span)) last_extends)
-
-    pub logical_extends : Extends s finished
-    logical_extends = extends_then left_extends end_extends
 
     two : length s1.env.identifiers ≡ length s.env.identifiers + 2
     two = simp length-append (omega arith)
@@ -343,53 +336,3 @@ module _ (s s2 s4 : State) (operator : LogicalOperator) (right_value left_value 
                   where
                     below : f < sl.env.next_block
                     below = omega (arith, aside_extends.blocks)
-
-    -- The block behind the expression is reached where the expression is.
-    pub logical_passes : Passes (logical_right s2 s.env.next_block (logical_place s span) operator span s.current right_value part) s4
-        → Passes s finished
-    logical_passes pl c cover entry r =
-        Leads sm.current.id.0 (length sm.current.instructions) (goto f gotos.Break left) (block_id f) at_moved
-        (terminal_met (reserved sm) (goto f gotos.Break left) (new_block sm.env.next_block block.Value) c cover_begun)
-        (or_left (same_id (block_id f) (block_id f)) false (same_self (block_id f)))
-      where
-        cover5 : IsContainedIn s5 c
-        cover5 = contained_before last_extends cover
-
-        cover4 : IsContainedIn s4 c
-        cover4 = contained_before (extends_pushed s4 (loads tested_place left_value span)) cover5
-
-        cover_left : IsContainedIn sl c
-        cover_left = contained_before gl cover4
-
-        cover_begun : IsContainedIn sd c
-        cover_begun =
-            contained_before gr
-            (contained_before right_extends
-            (contained_hole sr f gotos.Break part s.current c (contained_before terminal_extends cover_left)))
-
-        cover_moved : IsContainedIn sm c
-        cover_moved =
-            contained_before (extends_reserved sm)
-            (contained_hole (reserved sm) f gotos.Break left (new_block sm.env.next_block block.Value) c cover_begun)
-
-        at_test : IsLedTo c entry (f + 1)
-        at_test =
-            Leads s.current.id.0 (length s.current.instructions) (logical_end f operator span) (block_id (f + 1)) r
-            (terminal_met shut (logical_end f operator span) (new_block (f + 1) block.Value) c cover_left)
-            (or_left (same_id (block_id (f + 1)) (block_id (f + 1))) false (same_self (block_id (f + 1))))
-
-        at_branch : IsLedTo c entry s5.current.id.0
-        at_branch = passes_pushed s4 (loads tested_place left_value span) c cover5 entry (pl c cover4 entry at_test)
-
-        at_consequent : IsLedTo c entry (f + 1 + 1)
-        at_consequent =
-            Leads s5.current.id.0 (length s5.current.instructions) (branch tested_place (f + 1 + 1) alternate f span)
-            (block_id (f + 1 + 1)) at_branch
-            (terminal_met s5 (branch tested_place (f + 1 + 1) alternate f span) (new_block f s.current.kind) c cover)
-            (or_left (same_id (block_id (f + 1 + 1)) (block_id (f + 1 + 1))) _ (same_self (block_id (f + 1 + 1))))
-
-        at_moved : IsLedTo c entry sm.current.id.0
-        at_moved =
-            passes_pushed (with_temporary sc (Some left))
-            (unordered (temporary sc (Some left)) (values.StoreLocal kind.Const place tested_place)
-            (Some left)) c cover_moved entry at_consequent

@@ -1,4 +1,4 @@
--- The steps of loops in a loop, and the notes that are read.
+-- The notes that are read in a loop that tests before or behind its body.
 use Rattle.std.proofs.Common.{◌≡◌, ℕ, ◌+◌, ◌<◌, ◌≤◌, ◌⊎◌, inl, inr, List, [], ◌∷◌, refl, subst, arith}
 use Rattle.rl_builder.specs.Builder.{new_block}
 use Rattle.rl_builder.specs.declared.blocks.WipBlock.{WipBlock}
@@ -10,12 +10,10 @@ use Rattle.rl_hir.specs.declared.terminal.GotoVariant.TheVariants as gotos
 use Rattle.rl_hir.specs.declared.terminal.Terminal.{Terminal}
 use Rattle.rl_runs.proofs.Naming.{named_first, named_none}
 use Rattle.rl_runs.proofs.ReadNotes.{knows_plain, knows_then, marked_ended, unread_plain}
-use Rattle.rl_runs.proofs.StepNotes.{listed_aside, listed_ended, none_at, none_listed, steps_aside, steps_ended}
 use Rattle.rl_runs.specs.Blocks.{IsTarget}
 use Rattle.rl_runs.specs.Moves.{block_id, goto, without_scope}
 use Rattle.rl_runs.specs.ReadNotes.{HasId, IsHandler, KeepsUnread, KnowsReads, MarkedAt, ReadsSince, ReplacesSince, Unread, reads_of}
 use Rattle.rl_runs.specs.ReadNotes.{replaced_of}
-use Rattle.rl_runs.specs.StepNotes.{KeepsSteps, KnowsListed, StepIn}
 
 module _ (s s2 s4 : State) (label : Label) (test : Place) (span part : Span) (end : Terminal)
     (gb : Extends (while_begun s label) s2) (gt : Extends (loop_body s2 s.env.next_block end s.current part) s4) where
@@ -46,33 +44,6 @@ module _ (s s2 s4 : State) (label : Label) (test : Place) (span part : Span) (en
 
   abbrev pub behind : WipBlock
   behind = new_block (h + 1) block.Block
-
-  pub loop_steps : KeepsSteps begun s2 → KeepsSteps tst s4 → KeepsSteps s last
-  loop_steps kb kt = record {
-    since = λ k id q. elim (kt.since (in_test k) id (steps_ended s4 ends behind id refl q)) [
-      | inl h1 ↦ elim (steps_aside s (without_scope s2) again gb.table k id (steps_ended shut end tests id refl h1)) [
-        | inl h2 ↦ elim (kb.since (in_body k) id (moved h2)) [ inl h3 ↦ inl (of_begun h3) | inr above ↦ inr (omega (arith, above)) ]
-        | inr own ↦ inl own
-      ]
-      | inr above ↦ inr (omega (arith, above, gb.blocks))
-    ];
-    listed = λ k. listed_ended s4 ends behind refl (kt.listed (in_test k));
-  }
-    where
-      in_body : KnowsListed s → KnowsListed begun
-      in_body k = record { done = k.done; current = λ place number at. absurd (none_at place number at) }
-
-      in_shut : KnowsListed s → KnowsListed (without_scope s2)
-      in_shut k = let k2 = kb.listed (in_body k) in record { done = k2.done; current = k2.current }
-
-      in_test : KnowsListed s → KnowsListed tst
-      in_test k = listed_ended shut end tests refl (listed_aside s (without_scope s2) again gb.table k (in_shut k))
-
-      moved : {id : ℕ} → StepIn (without_scope s2) id → StepIn s2 id
-      moved {id} q = elim q [ inl d ↦ inl (record { block = d.block; one = d.one; named = d.named; step = d.step }) | inr w ↦ inr w ]
-
-      of_begun : {id : ℕ} → StepIn begun id → StepIn s id
-      of_begun {id} q = elim q [ inl d ↦ inl (record { block = d.block; one = d.one; named = d.named; step = d.step }) | inr w ↦ absurd (none_listed s.table w.1) ]
 
   -- Its branch reads the note of its test. Its own terminal reads none, and is replaced alone with the block behind the loop.
   pub loop_unread : ((id : ℕ) → HasId (replaced_of end.kind) id → s.env.next_block + 1 ≡ id)
@@ -181,12 +152,6 @@ module _ (s s2 s4 : State) (label : Label) (test : Place) (span part : Span) (en
           unread4 : Unread s4
           unread4 = kt.unread knows_test (λ id1 m1 n1. elim (ended id1 m1) [ inl m2 ↦ unread_shut id1 m2 (read_shut id1 n1) | inr e ↦ unread_behind id1 e (read_shut id1 n1) ])
 
-pub while_steps : (s s2 s4 : State) (label : Label) (test : Place) (span part : Span) → Extends (while_begun s label) s2
-    → Extends (while_body s2 s.env.next_block span s.current part) s4
-    → KeepsSteps (while_begun s label) s2 → KeepsSteps (while_body s2 s.env.next_block span s.current part) s4
-    → KeepsSteps s (while_finished s4 s.env.next_block span test)
-while_steps s s2 s4 label test span part = loop_steps s s2 s4 label test span part (while_end s.env.next_block span)
-
 pub while_unread : (s s2 s4 : State) (label : Label) (test : Place) (span part : Span) → Extends (while_begun s label) s2
     → Extends (while_body s2 s.env.next_block span s.current part) s4
     → KeepsUnread (while_begun s label) s2 → KeepsUnread (while_body s2 s.env.next_block span s.current part) s4
@@ -194,12 +159,6 @@ pub while_unread : (s s2 s4 : State) (label : Label) (test : Place) (span part :
 while_unread s s2 s4 label test span part gb gt =
     loop_unread s s2 s4 label test span part (while_end s.env.next_block span) gb gt (λ id never. absurd (named_none id never))
     (λ id never. named_none id never)
-
-pub do_while_steps : (s s2 s4 : State) (label : Label) (test : Place) (span part : Span) → Extends (while_begun s label) s2
-    → Extends (do_while_body s2 s.env.next_block span s.current part) s4
-    → KeepsSteps (while_begun s label) s2 → KeepsSteps (do_while_body s2 s.env.next_block span s.current part) s4
-    → KeepsSteps s (while_finished s4 s.env.next_block span test)
-do_while_steps s s2 s4 label test span part = loop_steps s s2 s4 label test span part (do_while_end s.env.next_block span)
 
 pub do_while_unread : (s s2 s4 : State) (label : Label) (test : Place) (span part : Span) → Extends (while_begun s label) s2
     → Extends (do_while_body s2 s.env.next_block span s.current part) s4

@@ -1,10 +1,9 @@
--- The steps of loops over keys or values, and the notes that are read.
+-- The notes that are read in loops over keys or values, and the steps of loops behind an instruction.
 use Rattle.std.proofs.Common.{◌≡◌, ℕ, ◌+◌, ◌-◌, ◌<◌, ◌≤◌, ◌⊎◌, inl, inr, ◌++◌, List, [], ◌∷◌, length, length-append, take}
 use Rattle.std.proofs.Common.{Option, Some, None, refl, sym, ap, ◌∙◌, subst, arith}
 use Rattle.rl_base.specs.declared.ids.InstructionId.{InstructionId}
-use Rattle.rl_builder.specs.Builder.{innermost, maybe_throw, new_block, plainly_pushed, pushed, pushed_under, reserved}
-use Rattle.rl_builder.specs.Builder.{with_temporary}
-use Rattle.rl_builder.specs.Temporaries.{temporary, unordered}
+use Rattle.rl_builder.specs.Builder.{maybe_throw, new_block, plainly_pushed, pushed_under, reserved}
+use Rattle.rl_builder.specs.Temporaries.{temporary}
 use Rattle.rl_frames.proofs.Common.{BlockId, Extends, Label, Place, Span, State}
 use Rattle.rl_frames.proofs.RoundStates.{numbered, rounds_begun, rounds_branch, rounds_init}
 use Rattle.rl_frames.specs.Parts.{forin_begun, forin_end, forin_init, forin_next, forof_begun, forof_end, forof_init, forof_next}
@@ -16,14 +15,26 @@ use Rattle.rl_hir.specs.declared.instruction.InstructionValue.TheVariants as val
 use Rattle.rl_hir.specs.declared.terminal.GotoVariant.TheVariants as gotos
 use Rattle.rl_hir.specs.declared.terminal.Terminal.{Terminal}
 use Rattle.rl_machine.specs.Prunes.{ReadsNote}
-use Rattle.rl_runs.proofs.HoleNotes.{steps_closed, steps_hole, steps_same, unread_aside, unread_branched, unread_value}
+use Rattle.rl_runs.proofs.HoleNotes.{unread_aside, unread_branched, unread_value}
 use Rattle.rl_runs.proofs.Moves.{extends_completed, extends_then, extends_value}
-use Rattle.rl_runs.proofs.ReadNotes.{unread_ended, unread_then}
-use Rattle.rl_runs.proofs.StepNotes.{found_below, listed_ended, steps_ended, steps_then}
+use Rattle.rl_runs.proofs.Naming.{named_none}
+use Rattle.rl_runs.proofs.ReadNotes.{marked_ended, unread_ended, unread_then}
+use Rattle.rl_runs.proofs.StepNotes.{found_below, listed_ended, steps_ended}
 use Rattle.rl_runs.proofs.Steps.{added_cases, get_more}
 use Rattle.rl_runs.specs.Moves.{block_id, goto}
-use Rattle.rl_runs.specs.ReadNotes.{KeepsUnread, reads_of, replaced_of}
-use Rattle.rl_runs.specs.StepNotes.{AreIn, HasStep, KeepsSteps, KnowsListed, StepIn}
+use Rattle.rl_runs.specs.ReadNotes.{KeepsUnread, MarkedAt, reads_of, replaced_of}
+use Rattle.rl_runs.specs.StepNotes.{AreIn, HasStep, KnowsListed, StepIn, stepless_of}
+
+-- An instruction of any kind adds no block that may have no step of a loop.
+pub pushed_marks : (o : Option BlockId) (s : State) (i : Instruction) (id : ℕ) → MarkedAt stepless_of (pushed_under o s i).completed id
+    → MarkedAt stepless_of s.completed id
+pushed_marks None s i id m = m
+pushed_marks (Some handler) s i id m =
+    elim (marked_ended stepless_of (reserved (plainly_pushed s i)) (maybe_throw s.env.next_block handler i.span)
+    (new_block s.env.next_block s.current.kind) id m) [
+      | inl old ↦ old
+      | inr new ↦ absurd (named_none id new)
+    ]
 
 -- An instruction, a step of a loop or not.
 module _ (x : State) (i : Instruction) where
@@ -82,16 +93,6 @@ module _ (x : State) (i : Instruction) where
       listed_ended (reserved (plainly_pushed x i)) (maybe_throw x.env.next_block handler i.span)
       (new_block x.env.next_block x.current.kind) refl (at_throw (plain_listed k))
 
--- It stands in a block that was numbered since.
-pub steps_late : (a x : State) (i : Instruction) → a.env.next_block ≤ x.current.id.0 → KeepsSteps a x → KeepsSteps a (pushed x i)
-steps_late a x i late f = record {
-  since = λ k id h. elim (pushed_step x i (innermost x.handlers) (f.listed k) id h) [
-    | inl old ↦ f.since k id old
-    | inr here ↦ inr (subst (λ (n : ℕ). a.env.next_block ≤ n) here late)
-  ];
-  listed = λ k. pushed_listed x i (innermost x.handlers) (f.listed k);
-}
-
 -- Up to the init.
 module _ (s s2 s3 : State) (l : ℕ) (label : Label) (end : Terminal) (part : Span) (low : s.env.next_block + 1 + 1 ≤ l)
     (gb : Extends (rounds_begun s l label) s2) (gr : Extends (rounds_body s2 s.env.next_block s.current part) s3) where
@@ -111,15 +112,6 @@ module _ (s s2 s3 : State) (l : ℕ) (label : Label) (end : Terminal) (part : Sp
       (unread_aside (numbered s l) s2 (new_block l block.Block) (rounds_begun s l label).scopes (take (length s2.scopes - 1) s2.scopes)
       s2.handlers (goto (h + 1) gotos.Continue part) refl refl gb.handlers kb) kr)
       (unread_ended s3 end (new_block (h + 1) block.Loop) no_replaced no_reads)
-
-  opened_steps : KeepsSteps (rounds_begun s l label) s2 → KeepsSteps (rounds_body s2 s.env.next_block s.current part) s3
-      → KeepsSteps s (rounds_init s s3 end)
-  opened_steps kb kr =
-      steps_then s (numbered s l) (rounds_init s s3 end) (omega (arith, low)) (steps_same s (numbered s l).env)
-      (steps_then (numbered s l) shut (rounds_init s s3 end) (omega (arith, gb.blocks))
-      (steps_hole (numbered s l) s2 (new_block l block.Block) (rounds_begun s l label).scopes (take (length s2.scopes - 1) s2.scopes)
-      s2.handlers (goto (h + 1) gotos.Continue part) refl gb.table kb)
-      (steps_then shut s3 (rounds_init s s3 end) gr.blocks kr (steps_closed s3 end (new_block (h + 1) block.Loop) refl)))
 
   -- The whole loop, from the init on by `y` to the end of the assignment.
   whole_unread : (s5 : State) (test : Place) (span : Span) → Extends (rounds_init s s3 end) s5 → replaced_of end.kind ≡ []
@@ -154,19 +146,6 @@ module _ (s s2 s3 s5 : State) (label : Label) (collection test : Place) (span le
   forin_unread kb kr kp =
       whole_unread s s2 s3 (n + 1 + 1) label (forin_end n span) part (omega arith) gb gr s5 test span (extends_then step gp) refl refl kb kr
       (unread_then yk sk s5 step.blocks gp.blocks step.handlers (unread_value yk (values.NextPropertyOf collection) (Some left)) kp)
-
-  pub forin_steps : KeepsSteps (forin_begun s label) s2 → KeepsSteps (rounds_body s2 s.env.next_block s.current part) s3
-      → KeepsSteps (forin_next s3 s.env.next_block collection span left) s5
-      → KeepsSteps s (rounds_finished s5 s.env.next_block (s.env.next_block + 1 + 1) span test)
-  forin_steps kb kr kp =
-      steps_then s s5 (rounds_finished s5 n (n + 1 + 1) span test) (omega (arith, gb.blocks, gr.blocks, step.blocks, gp.blocks))
-      (steps_then s sk s5 (omega (arith, gb.blocks, gr.blocks, step.blocks))
-      (steps_late s (with_temporary yk (Some left)) (unordered (temporary yk (Some left)) (values.NextPropertyOf collection) (Some left))
-      (omega arith)
-      (steps_then s yk (with_temporary yk (Some left)) (omega (arith, gb.blocks, gr.blocks))
-      (opened_steps s s2 s3 (n + 1 + 1) label (forin_end n span) part (omega arith) gb gr kb kr)
-      (steps_same yk (with_temporary yk (Some left)).env))) kp)
-      (steps_closed s5 (rounds_branch n (n + 1 + 1) test span) (new_block n block.Block) refl)
 
 -- A `for`-`of` loop.
 module _ (s s2 s3 s5 : State) (label : Label) (collection test : Place) (span left part : Span)
@@ -208,29 +187,3 @@ module _ (s s2 s3 s5 : State) (label : Label) (collection test : Place) (span le
       (unread_ended so (goto (m + 1 + 1) gotos.Break span) (new_block (m + 1 + 1) block.Loop) refl refl)
       (unread_then st sn s5 stepping.blocks gp.blocks stepping.handlers
       (unread_value st (values.IteratorNext (temporary yi collection.span) collection) (Some left)) kp)))
-
-  pub forof_steps : KeepsSteps (forof_begun s label) s2 → KeepsSteps (rounds_body s2 s.env.next_block s.current part) s3
-      → KeepsSteps (forof_next s3 s.env.next_block collection span left) s5
-      → KeepsSteps s (rounds_finished s5 s.env.next_block (s.env.next_block + 1 + 1 + 1) span test)
-  forof_steps kb kr kp =
-      steps_then s s5 (rounds_finished s5 m (m + 1 + 1 + 1) span test)
-      (omega (arith, gb.blocks, gr.blocks, opening.blocks, stepping.blocks, gp.blocks))
-      (steps_then s sn s5 (omega (arith, gb.blocks, gr.blocks, opening.blocks, stepping.blocks))
-      (steps_late s (with_temporary st (Some left))
-      (unordered (temporary st (Some left)) (values.IteratorNext (temporary yi collection.span) collection) (Some left)) (omega arith)
-      (steps_then s st (with_temporary st (Some left)) (omega (arith, gb.blocks, gr.blocks, opening.blocks)) in_test
-      (steps_same st (with_temporary st (Some left)).env))) kp)
-      (steps_closed s5 (rounds_branch m (m + 1 + 1 + 1) test span) (new_block m block.Block) refl)
-    where
-      in_init : KeepsSteps s so
-      in_init =
-          steps_late s (with_temporary yi collection.span)
-          (unordered (temporary yi collection.span) (values.GetIterator collection) collection.span) (omega arith)
-          (steps_then s yi (with_temporary yi collection.span) (omega (arith, gb.blocks, gr.blocks))
-          (opened_steps s s2 s3 (m + 1 + 1 + 1) label (forof_end m span) part (omega arith) gb gr kb kr)
-          (steps_same yi (with_temporary yi collection.span).env))
-
-      in_test : KeepsSteps s st
-      in_test =
-          steps_then s so st (omega (arith, gb.blocks, gr.blocks, opening.blocks)) in_init
-          (steps_closed so (goto (m + 1 + 1) gotos.Break span) (new_block (m + 1 + 1) block.Loop) refl)

@@ -81,9 +81,6 @@ module _ (s s2 : State) (value : Place) (span part : Span) where
     one_extends : Extends s1 finished
     one_extends = extends_then (extends_reserved s1) (extends_then aside_extends last_extends)
 
-    pub sequence_extends : Extends s finished
-    sequence_extends = extends_then first_extends one_extends
-
     two : length s1.env.identifiers ≡ length s.env.identifiers + 1
     two = simp length-append (omega arith)
 

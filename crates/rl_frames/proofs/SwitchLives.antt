@@ -81,9 +81,6 @@ module _ {K : Type 0} (key_of : Instruction → Option K) (own : Label) (s : Sta
     abbrev n : ℕ
     n = s.env.next_block
 
-    abbrev q : ℕ
-    q = x.env.next_block
-
     abbrev fall : ℕ
     fall = fall_of n cases
 

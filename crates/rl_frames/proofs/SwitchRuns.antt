@@ -314,9 +314,6 @@ module _ (s x t : State) (own : Label) (cases : List Case) (value : Place) (span
     from_start : Extends s x
     from_start = extends_then (extends_reserved s) gx
 
-    pub switch_extends : Extends s finished
-    switch_extends = extends_then from_start (extends_then gt ends)
-
     pub switch_runs : (world : World) (ms : List CaseMeaning) (d : Action Value) → RunsCases world own s cases x ms
         → RunsExpression world d x t value.identifier.0 → RunsStatement world (selecting world own ms d) s finished
     switch_runs world ms d rx rd = record { runs = run_it }

@@ -109,9 +109,6 @@ module _ (s s2 s3 s4 : State) (consequent_value alternate_value test : Place) (s
     end_extends : Extends sl finished
     end_extends = extends_then gt last_extends
 
-    pub ternary_extends : Extends s finished
-    ternary_extends = extends_then test_extends end_extends
-
     one_extends : Extends s1 finished
     one_extends = extends_then (extends_reserved s1) (extends_then aside_extends (extends_then terminal_extends end_extends))
 

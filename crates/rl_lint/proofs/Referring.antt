@@ -18,7 +18,7 @@ use Rattle.rl_lint.specs.declared.finding.LintRule.TheVariants as rule
 use Rattle.rl_resolver.specs.Inside.{is_function_word}
 use Rattle.rl_semantic.specs.Imports.{first_text}
 use Rattle.rl_semantic.specs.Items.{of_item}
-use Rattle.rl_syntax.specs.Syntax.{Syntax, Said, Count, Flag, Absent, Pieces, Then, pieces_of, syntax}
+use Rattle.rl_syntax.specs.Syntax.{Syntax, Said, Count, Flag, Absent, Pieces, pieces_of, syntax}
 use Rattle.rl_syntax.specs.declared.numbered.At.{At}
 use Rattle.rl_syntax.specs.declared.numbered.Numbered.{Numbered}
 use Rattle.rl_syntax.specs.declared.numbered.Numbered.TheVariants as numbered
@@ -219,19 +219,6 @@ walked_jump before after s0 s1 s2 own ps set walked = record {
     by_case false h r = refl
 
 pub ruleset by_jump = (walked_jump)
-
--- Trees in a row, one tree on.
-pub walked_next : (before middle after : List Finding) (s0 s1 s2 : Map) (t : Syntax) (ps : Pieces)
-    → Walked before middle s0 s1 (unused t) (told_tree t)
-    → Walked middle after s1 s2 (unused_among ps) (told_parts ps)
-    → Walked before after s0 s2 (unused_among (Then t ps)) (told_parts (Then t ps))
-walked_next before middle after s0 s1 s2 t ps first rest = record {
-  found_are = rest.found_are ∙ ap (λ l. l ++ unused_among ps) first.found_are ∙ append_assoc before (unused t) (unused_among ps);
-  seen_are = record {
-    at = λ label. rest.seen_are.at label ∙ ap (λ b. b || refers_among label ps) (first.seen_are.at label) ∙ or_assoc
-        (has s0 label) (refers label t) (refers_among label ps);
-  };
-}
 
 -- A loop over trees: what it has done, and what is left, are what it does in all.
 pub record Going (before now : List Finding) (seen later : Map) (all left : List Numbered) : Type 0 where

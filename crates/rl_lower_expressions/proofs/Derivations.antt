@@ -20,7 +20,7 @@ use Rattle.rl_hir.specs.declared.instruction.TemplateLiteral.{TemplateLiteral}
 use Rattle.rl_hir.specs.declared.instruction.TemplateQuasi.{TemplateQuasi}
 use Rattle.rl_lower_parts.proofs.Derivations.{derived, grown, room_after}
 use Rattle.rl_lower_parts.proofs.Gathered.{gathered_more}
-use Rattle.rl_lowered.proofs.Told.{told, told_all, told_properties}
+use Rattle.rl_lowered.proofs.Told.{told_all, told_properties}
 use Rattle.rl_lowered.specs.Forms.{AreQuasis, IsForm, IsLiteral, IsPrivate, IsRefused, IsRefusing, IsWrapper}
 use Rattle.rl_lowered.specs.Forms as forms
 use Rattle.rl_lowered.specs.Lowered.{Lowered, LoweredAll, LoweredLast, LoweredParts, LoweredProperties}
@@ -39,7 +39,6 @@ use Rattle.rl_syntax.specs.declared.numbered.At.{At}
 use Rattle.rl_syntax.specs.declared.word.Word.{Word}
 use Rattle.rl_syntax.specs.declared.word.Word.TheVariants as word
 use Rattle.rl_syntax.specs.Syntax.{Syntax, Node, Listed, Said, Flag, Pieces, End, Then, nodes, nodes_of, span_of}
-use Rattle.rl_text.specs.Numeral.{is_numeral, number_of}
 use Rattle.rl_lower_expressions.specs.Groups.{has_parts}
 use Rattle.rl_lowered.specs.Forms.{is_property}
 use Rattle.rl_lower_expressions.specs.Keys.{IsFraction, found_list, where_pieces}
@@ -213,12 +212,6 @@ one_then (lowered.NextUnknown at computed key e _ s _ _ unknown (lowered.NoPart 
     lowered.NextUnknown at computed key e _ s _ _ unknown more
 
 -- Conditions of lowerable nodes.
-
-pub call_told : (names : Names) (optional : Bool) {tree : Syntax} {at : At} {rest : Pieces}
-    → Node at word.Call (Then (Flag optional) rest) ≡ tree
-    → IsLowerable names tree → Node at word.Call (Then (Flag false) rest) ≡ tree
-call_told names false is may = is
-call_told names true is may = absurd (true≢false (subst (IsLowerable names) (sym is) may).0)
 
 pub member_told : (names : Names) (optional : Bool) {tree : Syntax} {at : At} {rest : Pieces}
     → Node at word.Member (Then (Flag optional) rest) ≡ tree

@@ -1,5 +1,5 @@
 -- Derivations of properties that are loaded, updated, deleted or called.
-use Rattle.std.proofs.Common.{◌≡◌, ℕ, ◌+◌, ◌≤◌, true, false, ◌&&◌, not, Bool, List, [], ◌∷◌, Option, Some, None, Result, Ok, Err, OnOk}
+use Rattle.std.proofs.Common.{◌≡◌, ℕ, ◌+◌, ◌≤◌, true, false, ◌&&◌, not, Bool, List, [], ◌∷◌, Some, None, Result, Ok, Err, OnOk}
 use Rattle.std.proofs.Common.{IfOk}
 use Rattle.std.proofs.Common.{refl, ap, sym, ◌∙◌, subst, arith}
 use Rattle.std.specs.Prelude.{codes}
@@ -8,7 +8,6 @@ use Rattle.rl_base.specs.Operators.{unary_text, update_text}
 use Rattle.rl_base.specs.declared.operator.UnaryOperator.{UnaryOperator}
 use Rattle.rl_base.specs.declared.operator.UpdateOperator.{UpdateOperator}
 use Rattle.rl_base.specs.declared.row.Row.TheVariants as row
-use Rattle.rl_base.specs.declared.span.Span.{Span}
 use Rattle.rl_base.specs.declared.stop.Stop.{Stop}
 use Rattle.rl_builder.specs.Builder.{State}
 use Rattle.rl_builder.specs.Temporaries.{temporary, with_value}
@@ -22,10 +21,10 @@ use Rattle.rl_hir.specs.declared.instruction.PropertyLiteral.TheVariants as keys
 use Rattle.rl_lower_expressions.specs.declared.member.LoweredMember.{LoweredMember}
 use Rattle.rl_lower_expressions.specs.declared.member.MemberProperty.{MemberProperty}
 use Rattle.rl_lower_expressions.specs.declared.member.MemberProperty.TheVariants as properties
-use Rattle.rl_lowered.specs.Forms.{Fixed, IsForm, IsInside, IsLinkKey, IsMember, IsPrivate, IsRefused, MemberKey, delete_of}
+use Rattle.rl_lowered.specs.Forms.{Fixed, IsForm, IsInside, IsLinkKey, IsMember, IsRefused, MemberKey, delete_of}
 use Rattle.rl_lowered.specs.Forms.{is_number_key, load_of}
 use Rattle.rl_lowered.specs.Forms as forms
-use Rattle.rl_lowered.specs.Lowered.{Lowered, LoweredAll, member_result, member_stored}
+use Rattle.rl_lowered.specs.Lowered.{LoweredAll, member_result, member_stored}
 use Rattle.rl_lowered.specs.Lowered as lowered
 use Rattle.rl_lowered.specs.Promised.{LowersAll, LowersExpression, share}
 use Rattle.rl_model.specs.Applied.{deletes}
@@ -33,7 +32,6 @@ use Rattle.rl_model.specs.Shapes.{is_link}
 use Rattle.rl_names.specs.Names.{Names}
 use Rattle.rl_promises.specs.Lowerable.{IsLowerable, Where}
 use Rattle.rl_promises.specs.Outs.{is_wrapped}
-use Rattle.rl_runs.proofs.Sizes.{size_value}
 use Rattle.rl_runs.specs.Blocks.{size_of}
 use Rattle.rl_syntax.specs.declared.numbered.At.{At}
 use Rattle.rl_syntax.specs.declared.word.Word.{Word}
@@ -148,19 +146,6 @@ method_ok {names} {es} {given} {loaded} {u} {p} {load} {call} s at there m (Ok p
     (begun ∙ ap (λ (v : InstructionValue). with_value s v (Some there.span)) same) l.by) refl)
 method_ok s at there m (Err e) new same begun at_place l calls moved placed = tt
 
--- The call of a callee that is a property.
-pub called_ok : {names : Names} (at : At) {there : At} {callee : Syntax} {w : Word} {fields : Pieces} (es : Pieces) {old s : State}
-    (new : State) (m : LoweredMember)
-    (r : Result Place Stop)
-    → Node there w fields ≡ callee → LowersMember names w fields old s m
-    → IfOk r (λ place. (w : Word) (fields : Pieces) (old : State) → LowersMember names w fields old s m
-    → LowersExpression names (Node at word.Call (Then (Flag false) (Then (Node there w fields) (Then (Listed es) End)))) old new place)
-    → IfOk r (λ place. LowersExpression names (Node at word.Call (Then (Flag false) (Then callee (Then (Listed es) End)))) old new place)
-called_ok {names} at {there} {callee} {w} {fields} es {old} {s} new m (Ok place) is parts calls =
-    subst (λ (n : Syntax). LowersExpression names (Node at word.Call (Then (Flag false) (Then n (Then (Listed es) End)))) old new place) is
-    (calls w fields old parts)
-called_ok at es new m (Err e) is parts calls = tt
-
 -- An update of a property.
 pub updated_ok : {names : Names} (at : At) {there : At} {target : Syntax} {w : Word} {fields : Pieces} (operator : UpdateOperator)
     (prefix : Bool) {s t : State} (m : LoweredMember) (r : Result Place Stop) (new : State)
@@ -214,12 +199,6 @@ delete_may names at operator {e} {inner} inside same link deletes_it may =
     kept true true there = refl
     kept false true there = refl
     kept b false there = absurd (cc)
-
--- The operand of another operator is.
-pub unary_may : (names : Names) (at : At) (operator : List ℕ) (e : Syntax) → bytes_eq operator (codes "delete") ≡ false
-    → IsLowerable names (Node at word.Unary (Then (Said operator) (Then e End))) → IsLowerable names e
-unary_may names at operator e other may =
-    subst (λ (b : Bool). Where (not (b && not (deletes e))) (IsLowerable names e)) other may
 
 -- A `delete` of what is no property.
 pub lost_delete : {names : Names} (operator : UnaryOperator) {e : Syntax} (inner : Syntax) → deletes e ≡ is_link inner

@@ -64,12 +64,6 @@ element_under (Node at word.Keyed ps) h = absurd (none_fits ps h)
 element_under (Node at word.Short ps) h = absurd (none_fits ps h)
 element_under _ h = refl
 
--- The default belongs to the part.
-pub under_default : (at : At) (name default : Syntax) → is_absent default ≡ false
-    → target_under (Node at word.Short (Then name (Then default End))) ≡ Node at word.Short (Then name (Then default End))
-under_default at name Absent there = absurd (true≢false there)
-under_default at name _ there = refl
-
 -- Keys.
 
 pub known_by_name : (key : Syntax) (text : List ℕ) → key_name key ≡ Some text → is_known_key false key ≡ true

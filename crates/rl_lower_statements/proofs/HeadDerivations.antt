@@ -126,11 +126,6 @@ one_declared {at} {there} {kind} {declarators} {rest} {tree} {first} {pattern} {
     one : (rest ≡ End) × (is_bare first ≡ true)
     one = one_item first rest (ap (λ (ds : Pieces). is_one_bare (Some ds)) (sym split) ∙ ap is_plain_head is ∙ plain)
 
-pub none_declared : {at : At} {kind : List ℕ} {declarators : Pieces} {tree : Syntax}
-    → Node at word.Var (Then (Said kind) (Then (Listed declarators) End)) ≡ tree → is_plain_head tree ≡ true → declarators ≡ End → ⊥
-none_declared {at} {kind} {declarators} {tree} is plain none =
-    let never : is_one_bare (Some End) ≡ true = ap (λ (ds : Pieces). is_one_bare (Some ds)) (sym none) ∙ ap is_plain_head is ∙ plain in cc
-
 -- A declaration.
 
 pub declared_room : {names : Names} {bind : At} {old mid : State} {identifier : ℕ} (again : State)

@@ -19,7 +19,7 @@ use Rattle.rl_hir.specs.declared.terminal.Case.{Case}
 use Rattle.rl_lower_statements.specs.Cases.{FramesBehind, FramesCase, FramesCases, joined}
 use Rattle.rl_lower_parts.proofs.MovedDerivations.{moving_by, moving_size}
 use Rattle.rl_lower_parts.specs.Moving.{moving}
-use Rattle.rl_lowered.proofs.Arounds.{arounds_in, cases_arounds}
+use Rattle.rl_lowered.proofs.Arounds.{cases_arounds}
 use Rattle.rl_lowered.proofs.Blocks.{statements_blocks}
 use Rattle.rl_lowered.proofs.Told.{told_case_test, told_cases}
 use Rattle.rl_lowered.specs.Arounds.{arounds}
@@ -27,12 +27,10 @@ use Rattle.rl_lowered.specs.Lowered as lowered
 use Rattle.rl_lowered.specs.Lowered.{Lowered, LoweredCaseTest, LoweredCases, LoweredStatements}
 use Rattle.rl_lowered.specs.Named.{IsNamed}
 use Rattle.rl_lowered.specs.Promised.{HasRoom, LowersCaseTest, LowersExpression, LowersStatement, LowersStatements, share}
-use Rattle.rl_model.specs.Actions.{Label}
 use Rattle.rl_names.specs.Names.{Names}
-use Rattle.rl_promises.specs.Jumps.{Around, InSwitch}
-use Rattle.rl_promises.specs.Lowerable.{AreLowerableCases, AreLowerableIn, IsLowerable, IsLowerableCase}
+use Rattle.rl_promises.specs.Jumps.{Around}
+use Rattle.rl_promises.specs.Lowerable.{AreLowerableCases, IsLowerableCase}
 use Rattle.rl_promises.specs.Moved.{may_move}
-use Rattle.rl_runs.specs.Blocks.{size_of}
 use Rattle.rl_runs.specs.Moves.{block_id}
 use Rattle.rl_syntax.specs.declared.numbered.At.{At}
 use Rattle.rl_syntax.specs.declared.numbered.Numbered.{Numbered}
@@ -174,35 +172,6 @@ case_framed {names} {at} {test} {statements} {tree} {f} {f1} {f2} {x} {b} {y} {b
     }
 
 -- In the hole of its statements, and in that of its test.
-
-pub case_statements_may : (names : Names) {at : At} {test : Syntax} {statements : Pieces} {tree : Syntax} (f : SwitchParts) (x b : State)
-    → Node at word.Case (Then test (Then (Listed statements) End)) ≡ tree → f.label ≡ None → b ≡ switch_entered f x
-    → IsLowerableCase names (InSwitch None ∷ arounds x) tree → AreLowerableIn names (arounds b) statements
-case_statements_may names {at} {test} {statements} {tree} f x b is plain entered may =
-    subst (λ (a : List Around). AreLowerableIn names a statements) (sym around)
-    (subst (IsLowerableCase names (InSwitch None ∷ arounds x)) (sym is) may).0
-  where
-    around : arounds b ≡ InSwitch None ∷ arounds x
-    around =
-        arounds_in x b (scopes.Switch f.label (block_id f.behind.id.0)) (ap (λ (o : State). o.scopes) entered)
-        ∙ ap (λ (l : Label). InSwitch l ∷ arounds x) plain
-
-pub case_test_may : (names : Names) {at : At} {test : Syntax} {statements : Pieces} {tree : Syntax} (around : List Around)
-    → Node at word.Case (Then test (Then (Listed statements) End)) ≡ tree → IsLowerableCase names around tree → IsLowerable names test
-case_test_may names around is may = (subst (IsLowerableCase names around) (sym is) may).1
-
-pub case_nodes : {at : At} {test : Syntax} {statements : Pieces} {tree : Syntax}
-    → Node at word.Case (Then test (Then (Listed statements) End)) ≡ tree
-    → nodes tree ≡ nodes test + nodes_of statements + 1
-case_nodes {at} {test} {statements} {tree} is =
-    let counted : nodes (Node at word.Case (Then test (Then (Listed statements) End))) ≡ nodes tree = ap nodes is in
-    omega (arith, counted)
-
-pub case_begun_size : (f : SwitchParts) (s : State) → size_of (switch_entered f s) ≤ size_of s + 1
-case_begun_size f s = omega arith
-
-pub case_ended_size : (f : SwitchParts) (s : State) (part : Span) → size_of (switch_left f s part) ≤ size_of s + 0
-case_ended_size f s part = omega arith
 
 -- A scope that was opened is there behind the statements.
 pub case_scope : {names : Names} {statements : Pieces} (f : SwitchParts) (x b y : State) → b ≡ switch_entered f x

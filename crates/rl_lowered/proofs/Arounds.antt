@@ -10,17 +10,16 @@ use Rattle.rl_builder.specs.declared.jumps.JumpScope.TheVariants as scopes
 use Rattle.rl_builder.specs.Jumps.{break_block_of, break_target, continue_block_of, continue_target, lookup_break, lookup_continue}
 use Rattle.rl_builder.specs.Jumps.{takes_break, takes_continue}
 use Rattle.rl_frames.specs.Parts.{forin_begun, forof_begun, label_begun, label_scope, while_begun, while_scope}
-use Rattle.rl_frames.specs.SwitchParts.{case_begun}
 use Rattle.rl_hir.specs.declared.terminal.Case.{Case}
-use Rattle.rl_lowered.proofs.Blocks.{blocks_caught, cases_blocks, expression_blocks, statement_blocks, statements_blocks}
+use Rattle.rl_lowered.proofs.Blocks.{blocks_caught, cases_blocks, expression_blocks, statement_blocks}
 use Rattle.rl_lowered.proofs.Catches.{declares_caught}
 use Rattle.rl_lowered.proofs.Common.{BlockId, Diagnostic, Names, Pieces, Place, Span, State, SymbolId, Syntax}
 use Rattle.rl_lowered.specs.Arounds.{around_of, arounds}
 use Rattle.rl_lowered.specs.Items.{promoted}
-use Rattle.rl_lowered.specs.Lowered.{Lowered, LoweredCases, LoweredStatement, LoweredStatements, catch_begun, catch_bound}
+use Rattle.rl_lowered.specs.Lowered.{Lowered, LoweredCases, LoweredStatement, catch_begun, catch_bound}
 use Rattle.rl_lowered.specs.Named.{IsFound}
 use Rattle.rl_model.specs.Actions.{Label}
-use Rattle.rl_promises.specs.Jumps.{InLabeled, InLoop, InSwitch, breaks_out, continues_in, is_in_loop, stop_of_break, stop_of_continue}
+use Rattle.rl_promises.specs.Jumps.{InLabeled, InLoop, breaks_out, continues_in, is_in_loop, stop_of_break, stop_of_continue}
 use Rattle.rl_runs.proofs.Moves.{extends_value}
 use Rattle.rl_runs.specs.Blocks.{PreservesBlocks}
 use Rattle.rl_runs.specs.Moves.{block_id}
@@ -133,13 +132,7 @@ expression_arounds {s = s} {t = t} d = arounds_kept s t (expression_blocks d)
 pub statement_arounds : {names : Names} {e : Syntax} {s t : State} → LoweredStatement names e s t → arounds t ≡ arounds s
 statement_arounds {s = s} {t = t} d = arounds_kept s t (statement_blocks d)
 
-pub statements_arounds : {names : Names} {es : Pieces} {s t : State} → LoweredStatements names es s t → arounds t ≡ arounds s
-statements_arounds {s = s} {t = t} d = arounds_kept s t (statements_blocks d)
-
 -- In a case of a `switch`, and behind the cases that were lowered before it.
-
-pub arounds_in_case : (s x : State) → arounds (case_begun x None s.env.next_block) ≡ InSwitch None ∷ arounds x
-arounds_in_case s x = arounds_in x (case_begun x None s.env.next_block) (scopes.Switch None (block_id s.env.next_block)) refl
 
 pub cases_arounds : {names : Names} {s : State} {es : Pieces} {ks : List Case} {t : State} → LoweredCases names s es ks t
     → arounds t ≡ arounds s

@@ -23,10 +23,6 @@ abbrev pub BlocksTo : (alternate : Option BlockId) → State → State → Type 
 BlocksTo None s t = PreservesBlocks s t
 BlocksTo (Some alternate) s t = LinkBlocks alternate.0 s t
 
-pub to_extends : (alternate : Option BlockId) (s t : State) → BlocksTo alternate s t → Extends s t
-to_extends None s t b = b.extends
-to_extends (Some alternate) s t b = b.extends
-
 -- The state behind a link whose holes left these.
 abbrev pub linked_state : (alternate : Option BlockId) → State → Span → (optional : Bool) → State → (value : Place) → State
 linked_state alternate s span optional s4 value = link_ended (link_after (link_at s span optional alternate)) s4 value

@@ -12,7 +12,7 @@ use Rattle.rl_lowered.proofs.Common.{Then}
 use Rattle.rl_lowered.proofs.Refusals.{assigned_pattern_refuses, assigned_refuses}
 use Rattle.rl_lowered.proofs.Refusals.{assigned_member_refuses, cast_refuses, compound_member_refuses, compound_refuses, computed_refuses}
 use Rattle.rl_lowered.proofs.Refusals.{constant_refuses, form_refuses, fraction_refuses, lost_head_refuses, member_head_refuses}
-use Rattle.rl_lowered.proofs.Refusals.{member_refuses, method_refuses, outer_refuses, private_refuses, property_refuses, refused_refuses}
+use Rattle.rl_lowered.proofs.Refusals.{method_refuses, outer_refuses, private_refuses, property_refuses, refused_refuses}
 use Rattle.rl_lowered.proofs.Refusals.{refusing_refuses, stored_head_refuses, unknown_refuses, updated_member_refuses, wrapper_refuses}
 use Rattle.rl_lowered.specs.Forms.{IsCast, IsForm, IsMember, IsPrivate, IsRefused, IsRefusing, IsWrapper, MemberKey, applied_by}
 use Rattle.rl_model.specs.Shapes.{is_absent, key_text}
@@ -306,11 +306,6 @@ cast_clean {there} is names at none = sym (cast_refuses names at there is) ∙ n
 pub private_clean : {w : Word} {fields : Pieces} {e : Syntax} → IsPrivate w fields e → (names : Names) (at : At)
     → refusals names (Node at w fields) ≡ [] → refusals names e ≡ []
 private_clean is names at none = sym (private_refuses names at is) ∙ none
-
-pub member_clean : {w : Word} {fields parts : Pieces} {pieces : List Piece} {object : Place} {key : MemberKey}
-    → IsMember w fields parts pieces object key → (names : Names) (at : At) → refusals names (Node at w fields) ≡ []
-    → refusals_in names parts ≡ []
-member_clean is names at none = sym (member_refuses names at is) ∙ none
 
 pub updated_member_clean : {w : Word} {fields parts : Pieces} {pieces : List Piece} {object : Place} {key : MemberKey}
     → IsMember w fields parts pieces object key → (names : Names) (at there : At) (operator prefix : Syntax)

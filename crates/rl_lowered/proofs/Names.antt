@@ -48,16 +48,6 @@ use Rattle.rl_used_names.specs.Choosing.{chosen, free_place}
 use Rattle.rl_used_names.specs.IdentifierNames.{fbt, fbt_diagnostic}
 use Rattle.rl_used_names.specs.UsedName.{UsedName}
 
-pub names_refl : {names : Names} (s : State) → KeepsNames names s s
-names_refl s = record {
-  named = λ n. n;
-  identifiers = λ identifier known is named. record { span = known.span; is = is };
-  pairs = λ p. p;
-  functions = refl;
-  fn_type = refl;
-  skip = refl;
-}
-
 pub names_then : {names : Names} (a b c : State) → KeepsNames names a b → KeepsNames names b c → KeepsNames names a c
 names_then a b c j k = record {
   named = λ n. k.named (j.named n);

@@ -11,9 +11,6 @@ use Rattle.rl_base.specs.declared.operator.BinaryOperator.{BinaryOperator}
 use Rattle.rl_base.specs.declared.operator.UnaryOperator.{UnaryOperator}
 use Rattle.rl_base.specs.declared.row.Row.{Row}
 use Rattle.rl_base.specs.declared.row.Row.TheVariants as row
-use Rattle.rl_grammar.proofs.Viewing.{rest_fit}
-use Rattle.rl_grammar.specs.Grammar.{every}
-use Rattle.rl_grammar.specs.declared.kind.Kind.TheVariants as sort
 use Rattle.rl_hir.specs.declared.instruction.NonLocalBinding.{NonLocalBinding}
 use Rattle.rl_hir.specs.declared.instruction.PrimitiveValue.{PrimitiveValue}
 use Rattle.rl_hir.specs.declared.instruction.TemplateQuasi.{TemplateQuasi}
@@ -94,12 +91,6 @@ quasis_refuse : (names : Names) {texts : Pieces} {quasis : List TemplateQuasi} �
 quasis_refuse names forms.NoQuasi = refl
 quasis_refuse names (forms.NextQuasi more) = quasis_refuse names more
 quasis_refuse names (forms.NextUncooked more) = quasis_refuse names more
-
-pub texts_refuse : (names : Names) (texts : Pieces) → every sort.Text texts ≡ true → refusals_in names texts ≡ []
-texts_refuse names End fit = refl
-texts_refuse names (Then (Said text) texts) fit =
-    texts_refuse names texts (rest_fit sort.Text (Then (Said text) texts) (Said text) texts refl fit)
-texts_refuse names (Then _ texts) fit = absurd (cc)
 
 -- A declaration of a variable.
 pub bind_refuses : (names : Names) (bind : At) (name : List ℕ) (type : Syntax) (symbol : SymbolId) → IsAnnotation type

@@ -16,10 +16,10 @@ use Rattle.rl_lowered.proofs.Common.{BlockId, Place, Span, State}
 use Rattle.rl_text.specs.Notation.{Tree, IsWritable, AreWritable}
 use Rattle.rl_text.specs.Number.{largest}
 use Rattle.rl_text.specs.Raw.{parts_of}
-use Rattle.rl_hir.specs.Instructions.{argument_place, argument_shape, binding_texts}
+use Rattle.rl_hir.specs.Instructions.{argument_shape, binding_texts}
 use Rattle.rl_hir.specs.Listing as listing
 use Rattle.rl_hir.specs.declared.function.IdentifierName.TheVariants.{Named}
-use Rattle.rl_hir.specs.Pieces.{Says, argument_pieces, gathered, row_parts}
+use Rattle.rl_hir.specs.Pieces.{Says, row_parts}
 use Rattle.rl_hir.specs.Terminals.{Chooses, Field, Follows, Leads, MayLead, MayName, Names, fields_of, goto_variant, listed_id}
 use Rattle.rl_hir.specs.Terminals.{names, return_variant, unreachable, with_order}
 use Rattle.rl_builder.specs.Builder.{ended_by, maybe_throw}
@@ -106,9 +106,6 @@ pub place_writable : (p : Place) → p.identifier.0 ≤ largest → IsWritable (
     → IsWritable (listing.place p)
 place_writable p count at = ((lit< tt, refl), (count, (at, tt)))
 
-pub place_span : (p : Place) → IsWritable (listing.place p) → IsWritable (listing.optional listing.span p.span)
-place_span p w = w.1.1.0
-
 -- Values
 
 pub undefined_writable : IsWritable (listing.value (values.Primitive primitives.Undefined))
@@ -146,26 +143,6 @@ pub binary_writable : (operator : BinaryOperator) (left right : Place) → IsUtf
     → IsWritable (listing.place left) → IsWritable (listing.place right)
     → IsWritable (listing.value (values.BinaryExpression operator left right))
 binary_writable operator left right utf8 l r = ((lit< tt, refl), ((utf8, tt), ((l, (r, tt)), tt)))
-
-shapes_writable : (given : List PlaceOrSpread) → AreWritable (row_parts rows.Texts (gathered argument_pieces given))
-shapes_writable [] = tt
-shapes_writable (arguments.Place p ∷ given) = (shape_utf8 (arguments.Place p), shapes_writable given)
-shapes_writable (arguments.Spread p ∷ given) = (shape_utf8 (arguments.Spread p), shapes_writable given)
-
-abbrev WritesPlace : PlaceOrSpread → Type 0
-WritesPlace a = IsWritable (listing.place (argument_place a))
-
-operands_writable : (given : List PlaceOrSpread) → All WritesPlace given
-    → AreWritable (row_parts rows.Operands (gathered argument_pieces given))
-operands_writable [] all = tt
-operands_writable (arguments.Place p ∷ given) all =
-    (All-head WritesPlace (arguments.Place p) given all, operands_writable given (All-tail WritesPlace (arguments.Place p) given all))
-operands_writable (arguments.Spread p ∷ given) all =
-    (All-head WritesPlace (arguments.Spread p) given all, operands_writable given (All-tail WritesPlace (arguments.Spread p) given all))
-
-pub call_writable : (callee : Place) (given : List PlaceOrSpread) → IsWritable (listing.place callee)
-    → All (λ a. IsWritable (listing.place (argument_place a))) given → IsWritable (listing.value (values.CallExpression callee given))
-call_writable callee given c all = ((lit< tt, refl), (shapes_writable given, ((c, operands_writable given all), tt)))
 
 pub stored_writable : (place value : Place) → IsWritable (listing.place place) → IsWritable (listing.place value)
     → IsWritable (listing.value (values.StoreLocal variables.Const place value))

@@ -1,6 +1,6 @@
 -- Lowering a binding pattern, or parameters, keeps places known and parts writable.
-use Rattle.std.proofs.Common.{ℕ, ◌<◌, ◌≤◌, Bool, List, [], ◌∷◌, All, length, map, Some, lit<, refl, arith}
-use Rattle.std.proofs.lemmas.List.Elements.{All-cons, All-head, All-nil, All-tail, All-weaker}
+use Rattle.std.proofs.Common.{◌<◌, Bool, List, [], ◌∷◌, All, map, Some, lit<, refl}
+use Rattle.std.proofs.lemmas.List.Elements.{All-cons, All-head, All-nil, All-tail}
 use Rattle.rl_builder.specs.Builder.{with_temporary}
 use Rattle.rl_builder.specs.Temporaries.{temporary}
 use Rattle.rl_hir.specs.declared.function.Param.{Param}
@@ -22,7 +22,7 @@ use Rattle.rl_lowered.specs.Lowered.{LoweredBound, LoweredMoved, LoweredParams, 
 use Rattle.rl_lowered.specs.Lowered as lowered
 use Rattle.rl_lowered.specs.Named.{found}
 use Rattle.rl_lowered.specs.Sound.{AreSmallTrees, HasSmallCounters, IsSmallTree, IsSoundPlace, StaysSound}
-use Rattle.rl_model.specs.WellFormed.{AreKnown, param_place}
+use Rattle.rl_model.specs.WellFormed.{param_place}
 use Rattle.rl_optional_frames.specs.Frames.{default_at, default_ended}
 use Rattle.rl_optional_frames.specs.Parts.{default_begun}
 use Rattle.rl_promises.specs.Locals.{IsSmallSpan, KnowsNames}
@@ -121,13 +121,6 @@ params_sound small knows (lowered.DefaultParam there pattern default rest more s
     let behind : StaysSound small made u = sound_next small made ended u frame.0 inner.0 in
     next_param small s u v (params.Place place) ps (sound_next small s made u (sound_promoted small s there.span at) behind)
     (place_next small made u place behind own) (params_sound small knows others (λ holds. ((all holds).0.1, (all holds).1.1)) last)
-
--- Their places stay known in later states.
-pub params_known : (small : Type 0) (t : State) (ps : List Param) (count : ℕ) → length t.env.identifiers ≤ count
-    → All (IsSoundPlace small t) (map param_place ps) → AreKnown count (map param_place ps)
-params_known small t ps count more all =
-    All-weaker (IsSoundPlace small t) (λ (p : Place). p.identifier.0 < count) (λ p sound. omega (arith, sound.known, more))
-    (map param_place ps) all
 
 -- The notation has parameters whose places it has.
 pub params_writable : (small : Type 0) (t : State) (ps : List Param) → small → HasSmallCounters t

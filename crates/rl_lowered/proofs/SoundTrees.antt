@@ -6,15 +6,8 @@ use Rattle.rl_text.specs.Number.{largest}
 use Rattle.rl_text.specs.Numeral.{is_numeral, number_of}
 use Rattle.rl_syntax.specs.Syntax.{Listed, Count, Flag, Absent, span_of}
 use Rattle.rl_promises.specs.Locals.{IsSmallSpan}
-use Rattle.rl_lowered.specs.Sound.{AreSmallTrees, HasSmallSpans, HaveSmallSpans, IsSmallTree}
+use Rattle.rl_lowered.specs.Sound.{HasSmallSpans, HaveSmallSpans}
 use Rattle.rl_lowered.specs.Spanned.{EachSpan, EachSpanAmong}
-
--- The first of small trees is small, and so are the others.
-pub first_small : (trees rest : Pieces) (tree : Syntax) → trees ≡ Then tree rest → AreSmallTrees trees
-    → IsSmallTree tree × AreSmallTrees rest
-first_small trees rest tree is small =
-    let both : AreSmallTrees (Then tree rest) = subst AreSmallTrees is small in
-    ((both.0.0, both.1.0), (both.0.1, both.1.1))
 
 -- A numeral spells a number up to the largest.
 pub numeral_fits : (text : List ℕ) (number : ℕ) → is_numeral text ≡ true → number ≡ number_of text → number ≤ largest

@@ -8,8 +8,7 @@ use Rattle.rl_builder.specs.Builder.{reserved, with_temporary}
 use Rattle.rl_builder.specs.declared.blocks.WipBlock.{WipBlock}
 use Rattle.rl_builder.specs.declared.jumps.JumpScope.{JumpScope}
 use Rattle.rl_builder.specs.Temporaries.{temporary, unordered, with_value}
-use Rattle.rl_frames.proofs.RoundNotes.{pushed_listed, pushed_step}
-use Rattle.rl_frames.proofs.RoundStepless.{pushed_marks}
+use Rattle.rl_frames.proofs.RoundNotes.{pushed_listed, pushed_marks, pushed_step}
 use Rattle.rl_frames.specs.Parts.{chain_begun, chain_ended, chain_reserved, chain_undefined, link_begun, link_end, link_finished}
 use Rattle.rl_frames.specs.Parts.{link_object}
 use Rattle.rl_hir.specs.Blocks.{Pair as BlockPair}

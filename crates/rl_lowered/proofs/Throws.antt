@@ -7,7 +7,7 @@ use Rattle.rl_base.specs.declared.row.Row.TheVariants as row
 use Rattle.rl_base.specs.declared.variable_kind.VariableKind.{VariableKind}
 use Rattle.rl_base.specs.declared.variable_kind.VariableKind.TheVariants as kinds
 use Rattle.rl_base.specs.Diagnostics.{diagnostic_at}
-use Rattle.rl_builder.specs.Builder.{completed_by, innermost, maybe_throw, new_block, plainly_pushed, pushed, pushed_under, recorded}
+use Rattle.rl_builder.specs.Builder.{innermost, maybe_throw, new_block, plainly_pushed, pushed, pushed_under, recorded}
 use Rattle.rl_builder.specs.Builder.{reserved, with_temporary}
 use Rattle.rl_builder.specs.declared.blocks.WipBlock.{WipBlock}
 use Rattle.rl_builder.specs.Temporaries.{temporary, unordered, with_value}
@@ -330,10 +330,6 @@ mutual
   last_throws (lowered.EarlierPart e next es s t u p q d ds) h on = throws_on h s (last_blocks ds).extends (expression_throws d h on)
 
 -- Statements: what comes first in them throws.
-
-pub ended_throws : (h : BlockId) (s t : State) (end : Terminal) (next : WipBlock) → Extends t (completed_by t end next)
-    → Throws h s t → Throws h s (completed_by t end next)
-ended_throws h s t end next g l = throws_on h s g l
 
 pub while_throws : (h : BlockId) (s s2 s4 : State) (test : Place) (span part : Span)
     → Extends (while_body s2 s.env.next_block span s.current part) s4 → Throws h (while_body s2 s.env.next_block span s.current part) s4

@@ -6,19 +6,19 @@ use Rattle.rl_hir.specs.declared.terminal.Case.{Case}
 use Rattle.rl_lowered.proofs.Common.{BlockId, Names, Piece, Pieces, Place, Span, State, Syntax}
 use Rattle.rl_lowered.proofs.Names.{all_names, case_test_names, cases_names, expression_names, front_names, head_names, init_names}
 use Rattle.rl_lowered.proofs.Names.{last_names, link_names, loop_names, names_same, spine_names, statement_names, statements_names}
-use Rattle.rl_lowered.proofs.Names.{bound_names, later_names, moved_names, pattern_names, target_names, test_names}
+use Rattle.rl_lowered.proofs.Names.{bound_names, later_names, pattern_names, target_names, test_names}
 use Rattle.rl_lowered.proofs.Sizes.{all_size, case_test_size, cases_size, expression_size, front_size, head_size, init_size, last_size}
-use Rattle.rl_lowered.proofs.Sizes.{later_size, left_size, moved_size, pattern_size, target_size}
+use Rattle.rl_lowered.proofs.Sizes.{later_size, left_size, pattern_size, target_size}
 use Rattle.rl_lowered.proofs.Sizes.{link_size, loop_size, spine_size, statement_size, statements_size, test_size}
 use Rattle.rl_lowered.specs.Forms.{Front}
 use Rattle.rl_lowered.specs.Lowered.{Lowered, LoweredAll, LoweredCaseTest, LoweredCases, LoweredFront, LoweredHead, LoweredInit}
 use Rattle.rl_lowered.specs.Lowered.{LoweredLast, LoweredLink, LoweredLoop, LoweredProperties, LoweredSpine, LoweredStatement}
 use Rattle.rl_lowered.specs.Items.{Later}
-use Rattle.rl_lowered.specs.Lowered.{LoweredBound, LoweredLater, LoweredMoved, LoweredPattern, LoweredStatements, LoweredTarget}
+use Rattle.rl_lowered.specs.Lowered.{LoweredBound, LoweredLater, LoweredPattern, LoweredStatements, LoweredTarget}
 use Rattle.rl_lowered.specs.Lowered.{LoweredTest}
 use Rattle.rl_lowered.specs.Promised.{LowersAll, LowersCaseTest, LowersCases, LowersExpression, LowersFront, LowersHead, LowersInit}
 use Rattle.rl_lowered.specs.Promised.{LowersLast, LowersLink, LowersLoop, LowersProperties, LowersSpine, LowersStatement}
-use Rattle.rl_lowered.specs.Promised.{LowersBound, LowersLater, LowersMoved, LowersPattern, LowersStatements, LowersTarget, LowersTest}
+use Rattle.rl_lowered.specs.Promised.{LowersBound, LowersLater, LowersPattern, LowersStatements, LowersTarget, LowersTest}
 use Rattle.rl_model.specs.Actions.{Label}
 
 pub told : {names : Names} {e : Syntax} {s t : State} {p : Place} → Lowered names e s t p → LowersExpression names e s t p
@@ -73,9 +73,6 @@ pub told_case_test : {names : Names} {e : Syntax} {s t : State} {p : Option Plac
 told_case_test l = record { by = l; named = (case_test_names l).named; size = case_test_size l }
 
 -- Defaults, targets and patterns.
-
-pub told_moved : {names : Names} {e : Syntax} {s t : State} {p : Place} → LoweredMoved names e s t p → LowersMoved names e s t p
-told_moved l = record { by = l; named = (moved_names l).named; size = moved_size l }
 
 pub told_target : {names : Names} {at : Span} {value : Place} {e : Syntax} {s t : State} {p : Place}
     → LoweredTarget names at value e s t p → LowersTarget names at value e s t p

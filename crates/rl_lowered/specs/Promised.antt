@@ -19,7 +19,7 @@ use Rattle.rl_lowered.specs.Forms.{Front}
 use Rattle.rl_lowered.specs.Lowered.{LoweredFront, LoweredLink, LoweredSpine}
 use Rattle.rl_lowered.specs.Lowered.{Lowered, LoweredAll, LoweredBody, LoweredCases, LoweredCaseTest, LoweredHead, LoweredInit, LoweredLast}
 use Rattle.rl_lowered.specs.Items.{Later}
-use Rattle.rl_lowered.specs.Lowered.{LoweredBound, LoweredLater, LoweredLoop, LoweredMoved, LoweredParams, LoweredPattern, LoweredProperties}
+use Rattle.rl_lowered.specs.Lowered.{LoweredBound, LoweredLater, LoweredLoop, LoweredParams, LoweredPattern, LoweredProperties}
 use Rattle.rl_lowered.specs.Lowered.{LoweredStatement, LoweredStatements, LoweredTarget, LoweredTest}
 use Rattle.rl_lowered.specs.Named.{IsNamed, KeepsNames, Respans}
 use Rattle.rl_lowered.specs.Sound.{AreSmallTrees, IsSmallTree, StaysSound}
@@ -128,12 +128,6 @@ pub record LowersTest (names : Names) (at : Span) (e : Syntax) (old new : State)
 -- As `LowersExpression`, for the head of a `for`-`in` or `for`-`of` loop, which takes `value`.
 pub record LowersHead (names : Names) (value : Place) (e : Syntax) (old new : State) (place : Place) : Type 0 where
   pub by : LoweredHead names value e old new place
-  pub named : IsNamed names old → IsNamed names new
-  pub size : size_of new ≤ size_of old + share (nodes e)
-
--- As `LowersExpression`, for a default.
-pub record LowersMoved (names : Names) (e : Syntax) (old new : State) (place : Place) : Type 0 where
-  pub by : LoweredMoved names e old new place
   pub named : IsNamed names old → IsNamed names new
   pub size : size_of new ≤ size_of old + share (nodes e)
 

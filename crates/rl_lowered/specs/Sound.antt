@@ -1,6 +1,5 @@
 -- Small trees, and what lowering them keeps: each place names an identifier that was made, and the notation has each part.
 use Rattle.std.specs.Prelude.{◌<◌, ◌≤◌, List, All, length}
-use Rattle.std.specs.Str.{IsUtf8}
 use Rattle.rl_text.specs.Notation.{IsWritable, AreWritable}
 use Rattle.rl_text.specs.Number.{largest}
 use Rattle.rl_syntax.specs.Syntax.{Syntax, Node, Listed, Said, Count, Flag, Absent, Pieces, End, Then, plain, plain_parts}
@@ -37,10 +36,6 @@ IsSmallTree tree = HasSmallSpans tree × IsWritable (plain tree)
 -- As `IsSmallTree`, for parts in a row.
 abbrev pub AreSmallTrees : Pieces → Type 0
 AreSmallTrees trees = HaveSmallSpans trees × AreWritable (plain_parts trees)
-
--- The name of the parameter is UTF-8, and the span of its declaration is small.
-abbrev pub IsSmallParameter : Parameter → Type 0
-IsSmallParameter p = IsUtf8 p.name × IsSmallSpan p.declaration
 
 -- The id of the parameter's symbol is a number of the notation.
 abbrev pub HasSmallSymbol : Parameter → Type 0

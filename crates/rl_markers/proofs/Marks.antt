@@ -28,10 +28,6 @@ and_none : (b : Bool) → (b && false) ≡ false
 and_none true = refl
 and_none false = refl
 
-or_assoc : (a b c : Bool) → (a || b) || c ≡ a || (b || c)
-or_assoc true b c = refl
-or_assoc false b c = refl
-
 pub mark_pushed : (marks : List Mark) (m : Mark) (s n : ℕ)
     → is_marked (marks ++ m ∷ []) s n ≡ (is_marked marks s n || (nat_eq s m.symbol && nat_le m.node n))
 mark_pushed marks m s n =

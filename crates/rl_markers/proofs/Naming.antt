@@ -32,10 +32,6 @@ or_assoc : (a b c : Bool) → (a || b) || c ≡ a || (b || c)
 or_assoc true b c = refl
 or_assoc false b c = refl
 
-or_true : (b : Bool) → b || true ≡ true
-or_true true = refl
-or_true false = refl
-
 and_false : (b : Bool) → false ≡ b && false
 and_false true = refl
 and_false false = refl

@@ -37,10 +37,6 @@ earlier key number s (b ∷ bs) less = by_test (nat_eq b.node.0 key)
     (λ fails. ap (λ (c : Bool). contains (if c then number ∷ those key (pairs_from (number + 1) bs) else those key (pairs_from (number + 1) bs)) s) fails
     ∙ earlier key (number + 1) s bs (omega (arith, less)))
 
-or_none : (b : Bool) → (b || false) ≡ b
-or_none true = refl
-or_none false = refl
-
 -- The symbols at a key are those whose first declarations are that node.
 those_are : (key number : ℕ) (bs : List Bound) (i : ℕ) (first : Bound) → slice_get bs i ≡ Some first
     → contains (those key (pairs_from number bs)) (number + i) ≡ nat_eq first.node.0 key

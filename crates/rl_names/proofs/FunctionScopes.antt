@@ -109,18 +109,6 @@ module _ (k : ℕ) where
     apart_after = elsewhere-append s.after more s.apart_after apart;
   }
 
-  pub splits_further : (all some fewer : List Bound) → Splits all some → Splits some fewer → Splits all fewer
-  splits_further all some fewer s t = record {
-    before = s.before ++ t.before;
-    after = t.after ++ s.after;
-    is = s.is
-        ∙ ap (λ l. s.before ++ (l ++ s.after)) t.is
-        ∙ ap (λ l. s.before ++ l) (append_assoc t.before (fewer ++ t.after) s.after ∙ ap (λ l. t.before ++ l) (append_assoc fewer t.after s.after))
-        ∙ sym (append_assoc s.before t.before (fewer ++ (t.after ++ s.after)));
-    apart_before = elsewhere-append s.before t.before s.apart_before t.apart_before;
-    apart_after = elsewhere-append t.after s.after t.apart_after s.apart_after;
-  }
-
   module _ (names : List Name) where
     own_elsewhere : (r : Role) (a : Above) (at : At) (ps : Pieces) → IsOther k a → AreElsewhere (own names r a at ps)
     own_elsewhere role.Binder a at ps other = (kind_other a.kind a.scope a.function other.scope other.function, tt)

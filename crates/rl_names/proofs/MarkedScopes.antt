@@ -17,7 +17,7 @@ use Rattle.rl_syntax.specs.declared.numbered.Position.{Position}
 use Rattle.rl_syntax.specs.declared.word.Word.{Word}
 use Rattle.rl_syntax.specs.declared.word.Word.TheVariants as word
 use Rattle.rl_names.proofs.FunctionScopes.{scope_inside_parts}
-use Rattle.rl_names.proofs.DeclarationNames.{each_head, each_tail, none_fits}
+use Rattle.rl_names.proofs.Fields.{each_head, each_tail, none_fits}
 
 -- A function that is marked.
 module _ (at : At) (w : Word) (ps : Pieces) (marked : is_marked w ps ≡ true) where

@@ -67,8 +67,5 @@ mutual
   plain_scopes_of End plain = refl
   plain_scopes_of (Then p ps) plain = let one = plain_scopes p plain.0 in let more = plain_scopes_of ps plain.1 in omega (arith, one, more)
 
-pub plain_elsewhere : (k : ℕ) (names : List Name) (a : Above) (t : Syntax) → IsPlain t → AreElsewhere k (declares names a t)
-plain_elsewhere k names a t plain = subst (λ l. AreElsewhere k l) (sym (plain_none names t a plain)) tt
-
 pub plain_elsewhere_among : (k : ℕ) (names : List Name) (n : ℕ) (a b : Above) (ps : Pieces) → ArePlain ps → AreElsewhere k (declares_among names n a b ps)
 plain_elsewhere_among k names n a b ps plain = subst (λ l. AreElsewhere k l) (sym (plain_none_among names ps n a b plain)) tt

@@ -1,5 +1,5 @@
 -- The numbers of symbols: each symbol has that of its own declaration, and each declaration that of one symbol.
-use Rattle.std.proofs.Common.{◌≡◌, ℕ, ◌+◌, ◌≤◌, ◌<◌, zero, suc, Bool, true, false, cond, ◌&&◌, if◌then◌else◌, nat_eq, eqb-true, eq-eqb, true≢false, ◌⊎◌, inl, inr, Option, Some, None, is_some, List, [], ◌∷◌, ◌++◌, length, length-append, map, slice_get, refl, sym, ap, subst, ◌∙◌, arith}
+use Rattle.std.proofs.Common.{◌≡◌, ℕ, ◌+◌, ◌≤◌, ◌<◌, suc, Bool, true, false, cond, ◌&&◌, if◌then◌else◌, nat_eq, eqb-true, eq-eqb, true≢false, ◌⊎◌, inl, inr, Option, Some, None, is_some, List, [], ◌∷◌, ◌++◌, length, length-append, map, slice_get, refl, sym, ap, subst, ◌∙◌, arith}
 use Rattle.std.proofs.lemmas.Bool.{ne_eqb}
 use Rattle.std.specs.List.{position_from}
 use Rattle.rl_bindings.specs.SymbolTables.{knows}
@@ -13,24 +13,6 @@ use Rattle.rl_resolver.specs.Lookups.{symbol_id}
 use Rattle.rl_names.proofs.Declarations.{Ascends, ascends_end}
 use Rattle.rl_bindings.proofs.LookUps.{by_test}
 use Rattle.rl_names.proofs.Items.{Has, has_cases, has_item}
-
--- An item with which a list ends, or one before it.
-item_push : {X : Type 0} (xs : List X) (last x : X) (k : ℕ) → slice_get (xs ++ last ∷ []) k ≡ Some x → (slice_get xs k ≡ Some x) ⊎ ((k ≡ length xs) × (x ≡ last))
-item_push [] last x zero is = inr (refl, (let e : x ≡ last = cc in e))
-item_push [] last x (suc k) is = absurd (cc)
-item_push (y ∷ xs) last x zero is = inl is
-item_push (y ∷ xs) last x (suc k) is = elim (item_push xs last x k is) [ inl before ↦ inl before | inr end ↦ inr (ap suc end.0, end.1) ]
-
--- A look-up in a list with one more item, that no item before it is found in place of.
-position_push : (p : Bound → Bool) (i last : ℕ) (xs : List Bound) (x : Bound) → i + length xs ≡ last → (p x ≡ true → position_from p i xs ≡ None) → position_from p i (xs ++ x ∷ []) ≡ cond (p x) (Some last) (position_from p i xs)
-position_push p i last [] x same none = let e : i ≡ last = omega (arith, same) in ap (λ n. cond (p x) (Some n) None) e
-position_push p i last (y ∷ ys) x same none =
-    step (p y) (p x) (position_from p (i + 1) ys) (position_from p (i + 1) (ys ++ x ∷ [])) none (λ before. position_push p (i + 1) last ys x (omega (arith, same)) before)
-  where
-    step : (b c : Bool) (before after : Option ℕ) → (c ≡ true → cond b (Some i) before ≡ None) → ((c ≡ true → before ≡ None) → after ≡ cond c (Some last) before) → cond b (Some i) after ≡ cond c (Some last) (cond b (Some i) before)
-    step true true before after none more = absurd (let e : Some i ≡ None = none refl in cc)
-    step true false before after none more = refl
-    step false c before after none more = more none
 
 -- The place where an item is found that the test is true of.
 pub record IsFound {X : Type 0} (test : X → Bool) (first place : ℕ) (xs : List X) : Type 0 where
@@ -68,47 +50,13 @@ place_of own scope name b at =
       name_is = eqb-true b.name name (both_right (nat_eq b.scope.0 scope) (nat_eq b.name name) rest);
     }
 
-same_self : (a : Bool) → same a a ≡ true
-same_self true = refl
-same_self false = refl
-
-at_self : (b : Bound) → is_at (is_own b.kind) b.scope.0 b.name b ≡ true
-at_self b = λ i. same_self (is_own b.kind) i && (eq-eqb b.scope.0 b.scope.0 refl i && eq-eqb b.name b.name refl i)
-
 -- The number of the symbol that a declaration declares.
 abbrev pub number_of_bound : List Bound → Bound → Option ℕ
 number_of_bound symbols b = number_at (is_own b.kind) b.scope.0 b.name symbols
 
-number_there : (symbols : List Bound) (own : Bool) (scope name : ℕ) (b : Bound) → is_at own scope name b ≡ true → number_at own scope name symbols ≡ number_of_bound symbols b
-number_there symbols own scope name b at = let p = place_of own scope name b at in sym (λ i. number_at (p.own_is i) (p.scope_is i) (p.name_is i) symbols)
-
--- Each symbol is the first of those that stand at its place.
-pub record AreNumbered (symbols : List Bound) : Type 0 where
-  pub own : (k : ℕ) (b : Bound) → slice_get symbols k ≡ Some b → number_of_bound symbols b ≡ Some k
-
-no_number : (o : Option ℕ) → is_some o ≡ false → o ≡ None
-no_number None none = refl
-no_number (Some n) none = absurd (true≢false none)
-
 some_number : (o : Option ℕ) → is_some o ≡ true → (n : ℕ) × (o ≡ Some n)
 some_number None some = absurd (true≢false (sym some))
 some_number (Some n) some = (n, refl)
-
--- The symbols with one more, of a new place.
-module _ (symbols : List Bound) (b : Bound) (new : number_of_bound symbols b ≡ None) where
-  number_push : (own : Bool) (scope name : ℕ) → number_at own scope name (symbols ++ b ∷ []) ≡ cond (is_at own scope name b) (Some (length symbols)) (number_at own scope name symbols)
-  number_push own scope name = position_push (is_at own scope name) 0 (length symbols) symbols b (omega arith) (λ at. number_there symbols own scope name b at ∙ new)
-
-  numbered_push : AreNumbered symbols → AreNumbered (symbols ++ b ∷ [])
-  numbered_push numbered = record {
-    own = λ k c is. elim (item_push symbols b c k is) [
-      | inl before ↦ (by_test (is_at (is_own c.kind) c.scope.0 c.name b)
-          (λ at. absurd (let e : None ≡ Some k = sym new ∙ sym (number_there symbols (is_own c.kind) c.scope.0 c.name b at) ∙ numbered.own k c before in cc))
-          (λ apart. number_push (is_own c.kind) c.scope.0 c.name ∙ ap (λ x. cond x (Some (length symbols)) (number_of_bound symbols c)) apart ∙ numbered.own k c before))
-      | inr end ↦ (subst (λ d. number_of_bound (symbols ++ b ∷ []) d ≡ Some k) (sym end.1)
-          (number_push (is_own b.kind) b.scope.0 b.name ∙ ap (λ x. cond x (Some (length symbols)) (number_of_bound symbols b)) (at_self b) ∙ ap Some (sym end.0)))
-    ];
-  }
 
 module _ (symbols : List Bound) (b : Bound) where
   add_known : knows symbols (is_own b.kind) b.scope.0 b.name ≡ true → add symbols b ≡ symbols
@@ -116,11 +64,6 @@ module _ (symbols : List Bound) (b : Bound) where
 
   add_new : knows symbols (is_own b.kind) b.scope.0 b.name ≡ false → add symbols b ≡ symbols ++ b ∷ []
   add_new new = ap (λ (x : Bool). if x then symbols else symbols ++ b ∷ []) new
-
-  numbered_add : AreNumbered symbols → AreNumbered (add symbols b)
-  numbered_add numbered = by_test (knows symbols (is_own b.kind) b.scope.0 b.name)
-      (λ known. subst AreNumbered (sym (add_known known)) numbered)
-      (λ new. subst AreNumbered (sym (add_new new)) (numbered_push symbols b (no_number (number_of_bound symbols b) new) numbered))
 
   has_add : (c : Bound) → Has (add symbols b) c → Has symbols c ⊎ (c ≡ b)
   has_add c has = by_test (knows symbols (is_own b.kind) b.scope.0 b.name)
@@ -131,14 +74,6 @@ module _ (symbols : List Bound) (b : Bound) where
   length_add = by_test (knows symbols (is_own b.kind) b.scope.0 b.name)
       (λ known. let e = ap length (add_known known) in omega (arith, e))
       (λ new. let e = ap length (add_new new) in omega (arith, e, length-append symbols (b ∷ [])))
-
-numbered_all : (bs symbols : List Bound) → AreNumbered symbols → AreNumbered (add_all symbols bs)
-numbered_all [] symbols numbered = numbered
-numbered_all (b ∷ bs) symbols numbered = numbered_all bs (add symbols b) (numbered_add symbols b numbered)
-
--- The symbols of declarations are numbered by their own declarations.
-pub symbols_numbered : (bs : List Bound) → AreNumbered (add_all [] bs)
-symbols_numbered bs = numbered_all bs [] (record { own = λ k b is. absurd (cc) })
 
 has_all : (bs symbols : List Bound) (c : Bound) → Has (add_all symbols bs) c → Has symbols c ⊎ Has bs c
 has_all [] symbols c has = inl has

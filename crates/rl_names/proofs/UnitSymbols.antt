@@ -1,6 +1,6 @@
 -- The symbols of a unit that the declarations of a function's parameters have, and those that are local variables of the
 -- function.
-use Rattle.std.proofs.Common.{◌≡◌, ◌≢◌, ℕ, ◌+◌, ◌≤◌, ◌<◌, Bool, true, false, if◌then◌else◌, nat_le, nat_lt, le-leb, lt-ltb, inl, inr, Option, Some, None, is_some, List, [], ◌++◌, length, map, slice_get, refl, sym, ap, subst, ◌∙◌, arith}
+use Rattle.std.proofs.Common.{◌≡◌, ◌≢◌, ℕ, ◌+◌, ◌≤◌, ◌<◌, Bool, true, false, if◌then◌else◌, nat_le, nat_lt, le-leb, lt-ltb, inl, inr, Option, Some, None, is_some, List, [], ◌++◌, length, map, refl, sym, ap, subst, ◌∙◌, arith}
 use Rattle.std.proofs.lemmas.List.Elements.{recursion_from_All}
 use Rattle.std.proofs.lemmas.Option.{slice_get_within}
 use Rattle.rl_base.specs.declared.ids.SymbolId.{SymbolId}
@@ -85,12 +85,6 @@ meaning_local import_data at scopes symbols (Some s) name symbol is = by_test (i
     let same : s ≡ symbol = cc in
     subst (λ x. is_local at scopes symbols x.0 ≡ true) same local)
     (λ other. absurd (let found : Outer (symbol_binding import_data symbols s.0 name) ≡ Local symbol = sym (ap (λ (x : Bool). if x then Local s else Outer (symbol_binding import_data symbols s.0 name)) other) ∙ is in cc))
-
--- The declaration of a local variable, by the symbol.
-pub record IsLocal (k : ℕ) (symbols : List Bound) (symbol : ℕ) : Type 0 where
-  pub bound : Bound
-  pub there : slice_get symbols symbol ≡ Some bound
-  pub scope_is : bound.scope.0 ≡ k
 
 -- Names that break no rule have no two parameters of one name.
 pub not_repeated : (clashed passing repeated shared : Bool) → least clashed passing repeated shared ≡ None → repeated ≡ false

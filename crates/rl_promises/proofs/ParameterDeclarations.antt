@@ -1,5 +1,5 @@
 -- The parameters of a function that are names, among all names that its parameters declare: each has a symbol and a name of its own.
-use Rattle.std.proofs.Common.{◌≡◌, ◌≢◌, ℕ, zero, Bool, true, false, ◌&&◌, if◌then◌else◌, eq-eqb, true≢false, inl, inr, Option, Some, None, is_some, unwrap_or, List, [], ◌∷◌, ◌++◌, slice_get, append_assoc, append-nil, refl, sym, ap, subst, ◌∙◌}
+use Rattle.std.proofs.Common.{◌≡◌, ◌≢◌, ℕ, zero, Bool, true, false, ◌&&◌, if◌then◌else◌, eq-eqb, true≢false, inl, inr, Option, Some, None, is_some, unwrap_or, List, [], ◌∷◌, ◌++◌, slice_get, append_assoc, refl, sym, ap, subst, ◌∙◌}
 use Rattle.std.proofs.lemmas.Bool.{or_parts}
 use Rattle.std.proofs.lemmas.List.Elements.{All-from_recursion}
 use Rattle.std.proofs.lemmas.Slice.Eq.{bytes_eq-Decides}
@@ -20,7 +20,7 @@ use Rattle.rl_bindings.specs.declared.role.Above.{Above}
 use Rattle.rl_names.proofs.Declarations.{declares, declares_among}
 use Rattle.rl_names.proofs.Items.{Has, each_has, each_right, each_weaker, has_left, has_right}
 use Rattle.rl_names.proofs.NameTexts.{IsKnown, numbered_text}
-use Rattle.rl_names.proofs.ParameterNames.{IsParam, IsTold}
+use Rattle.rl_names.proofs.ParameterNames.{IsParam, IsTold, clashes_last}
 use Rattle.rl_names.proofs.PlainParameters.{param_above}
 use Rattle.rl_names.proofs.SymbolNumbers.{HasSymbol}
 use Rattle.rl_names.specs.Locals.{AreApart, AreDeclared, IsApart}
@@ -65,15 +65,6 @@ no_clash clash before (d ∷ bs) b c none early (inl is) =
 no_clash clash before (d ∷ bs) b c none early (inr more) =
     no_clash clash (before ++ d ∷ []) bs b c
     ((or_parts (list_any (clash d) before) (clashes clash (before ++ d ∷ []) bs) none).1) (has_left before (d ∷ []) b early) more
-
--- Without clashes among declarations there are none among the last of them.
-last_clashes : (clash : Bound → Bound → Bool) (before first last : List Bound) → clashes clash before (first ++ last) ≡ false
-    → clashes clash (before ++ first) last ≡ false
-last_clashes clash before [] last none = subst (λ l. clashes clash l last ≡ false) (sym (append-nil before)) none
-last_clashes clash before (b ∷ first) last none =
-    subst (λ l. clashes clash l last ≡ false) (append_assoc before (b ∷ []) first)
-    (last_clashes clash (before ++ b ∷ []) first last
-    (or_parts (list_any (clash b) before) (clashes clash (before ++ b ∷ []) (first ++ last)) none).1)
 
 repeated : (b c : Bound) → b.kind ≡ kind.Param → c.kind ≡ kind.Param → b.scope.0 ≡ c.scope.0 → b.name ≡ c.name → is_repeat c b ≡ true
 repeated b c one other scopes names =
@@ -239,7 +230,7 @@ module _ (table : List Name) (symbols : List Bound) (names : Names) (at : At) wh
       let known_rest = each_right (IsKnown table) (texts param) (texts_of ps) known in
       let all : clashes is_repeat before (own ++ (bs ++ after)) ≡ false =
       subst (λ l. clashes is_repeat before l ≡ false) (append_assoc own bs after) none in
-      let none_rest = last_clashes is_repeat before own (bs ++ after) all in
+      let none_rest = clashes_last is_repeat before own (bs ++ after) all in
       subst (λ l. AreApart (l ++ rest)) (sym (one_parameter pat bind name type default t.symbol.number t.declared)) (
         All-from_recursion (IsApart p) rest (each_weaker (IsOf bs) (IsApart p) rest
             (λ q j. two_apart (own ++ bs) bs p q i j (λ same.
@@ -256,7 +247,7 @@ module _ (table : List Name) (symbols : List Bound) (names : Names) (at : At) wh
       let all : clashes is_repeat before (own ++ (bs ++ after)) ≡ false =
       subst (λ l. clashes is_repeat before l ≡ false) (append_assoc own bs after) none in
       row_apart ps (before ++ own) after (λ c has. form c (has_right own bs c has)) (λ c has. told c (has_right own bs c has))
-      (each_right (IsKnown table) (texts p) (texts_of ps) known) (last_clashes is_repeat before own (bs ++ after) all)
+      (each_right (IsKnown table) (texts p) (texts_of ps) known) (clashes_last is_repeat before own (bs ++ after) all)
 
   -- The span of a symbol's declaration identifier.
   abbrev declared_span : (symbol : ℕ) → Option Span

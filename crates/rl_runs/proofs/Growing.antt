@@ -1,21 +1,15 @@
 -- The runs of lists of values that grow: by the value of an instruction over them, and by another list; and of one of the values alone.
-use Rattle.std.proofs.Common.{◌≡◌, ℕ, zero, suc, ◌<◌, ◌≤◌, inl, ◌++◌, List, [], ◌∷◌, All, length, map, slice_get, Option, Some, refl, sym}
+use Rattle.std.proofs.Common.{◌≡◌, ℕ, zero, suc, ◌<◌, ◌≤◌, inl, ◌++◌, List, [], ◌∷◌, All, length, map, slice_get, Some, refl, sym}
 use Rattle.std.proofs.Common.{ap, ◌∙◌, subst, arith}
 use Rattle.std.proofs.lemmas.List.{map-append}
 use Rattle.std.proofs.lemmas.List.Elements.{All-append, All-cons, All-head, All-nil, All-tail, All-weaker}
 use Rattle.std.proofs.lemmas.Option.{none-some, same_Some}
 use Rattle.rl_builder.specs.Builder.{innermost}
-use Rattle.rl_builder.specs.Temporaries.{with_value}
-use Rattle.rl_hir.specs.declared.instruction.InstructionValue.{InstructionValue}
-use Rattle.rl_machine.specs.Acts.{Asks, Computes, act, gives, keeps}
-use Rattle.rl_machine.specs.declared.trace.Event.{Event}
 use Rattle.rl_machine.specs.Ends.{Notes}
-use Rattle.rl_machine.specs.Traces.{fired, set_open}
 use Rattle.rl_model.specs.Actions.{Action}
-use Rattle.rl_runs.proofs.Common.{Answer, Code, Span, State, Store, Value, World}
-use Rattle.rl_runs.proofs.Expressions.{over_asked, over_given, over_kept}
+use Rattle.rl_runs.proofs.Common.{Answer, Code, State, Store, Value, World}
 use Rattle.rl_runs.proofs.Holes.{same_throws, use_all}
-use Rattle.rl_runs.proofs.Moves.{contained_before, extends_refl, extends_value, inside}
+use Rattle.rl_runs.proofs.Moves.{contained_before, extends_refl, inside}
 use Rattle.rl_runs.proofs.Steps.{since_start, since_then, throws_then}
 use Rattle.rl_runs.specs.Continuations.{Later, between}
 use Rattle.rl_runs.specs.Facts.{Extends, HasSoundNames, IsContainedIn, Nobody}
@@ -51,37 +45,6 @@ module _ (world : World) (s mid new : State) (ds : Action (List Value)) (identif
       same_values identifiers later store
       (both_tell (λ id. id < length mid.env.identifiers) (Nobody c.ident) (λ id. later id ≡ store id)
       (λ id made free. t.temporaries id free (inl made)) identifiers rs.made (rs.free c (contained_before g2 cover) sound))
-
-  -- The value of an expression over the values is one more.
-  pub added_runs : (e : List Value → Action Value) (identifier : ℕ) → RunsOver world e mid new identifiers identifier
-      → RunsAll world (λ ways k. ds ways (λ vs. e vs ways (λ v. k (vs ++ v ∷ [])))) s new (identifiers ++ identifier ∷ [])
-  added_runs e identifier r = record {
-    fresh =
-        All-append (λ id. length s.env.identifiers ≤ id) identifiers (identifier ∷ []) rs.fresh
-        (All-cons (λ id. length s.env.identifiers ≤ id) identifier [] (omega (arith, r.fresh, g1.identifiers))
-        (All-nil (λ id. length s.env.identifiers ≤ id)));
-    made =
-        All-append (λ id. id < length new.env.identifiers) identifiers (identifier ∷ [])
-        (All-weaker (λ id. id < length mid.env.identifiers) (λ id. id < length new.env.identifiers)
-        (λ id made. omega (arith, made, g2.identifiers)) identifiers rs.made)
-        (All-cons (λ id. id < length new.env.identifiers) identifier [] r.made (All-nil (λ id. id < length new.env.identifiers)));
-    free = λ c cover sound. All-append (Nobody c.ident) identifiers (identifier ∷ []) (rs.free c (contained_before g2 cover) sound)
-        (All-cons (Nobody c.ident) identifier [] (r.free c cover (g1.sound sound)) (All-nil (Nobody c.ident)));
-    runs = λ c cover sound shares ways k source store notes answers a throws onward.
-        use_all ways (λ vs. e vs ways (λ v. k (vs ++ v ∷ []))) rs (contained_before g2 cover) sound shares (inside (extends_refl s) g2)
-        throws (since_start a)
-        (λ vs source1 store1 notes1 answers1 t u are.
-        r.runs c cover (g1.sound sound) shares ways (λ v. k (vs ++ v ∷ [])) vs source1 store1 notes1 answers1 t.agrees are
-        (throws_then (innermost mid.handlers) ways.throws (inside g1 (extends_refl new)) t.later
-        (same_throws c (between s new) store notes answers s mid ways.throws g1.handlers throws))
-        (record {
-          goes = λ v source2 store2 notes2 answers2 u2 is.
-              onward.goes (vs ++ v ∷ []) source2 store2 notes2 answers2 (since_then (inside g1 (extends_refl new)) t.later u2)
-              (map-append store2 identifiers (identifier ∷ [])
-              ∙ ap (λ (ws : List Value). ws ++ store2 identifier ∷ []) (stay c cover sound u2.later ∙ are)
-              ∙ ap (λ (w : Value). vs ++ w ∷ []) is);
-        }));
-  }
 
   -- As `added_runs`, with the value in front of the others.
   pub fronted_runs : (e : List Value → Action Value) (identifier : ℕ) → RunsOver world e mid new identifiers identifier
@@ -135,48 +98,6 @@ module _ (world : World) (s mid new : State) (ds : Action (List Value)) (identif
         ∙ ap (λ (xs : List Value). xs ++ map store2 more) (stay c cover sound u2.later ∙ are)
         ∙ ap (λ (xs : List Value). vs ++ xs) more_are)));
   }
-
--- Values from left to right, and then the value of an instruction over them.
-module _ (world : World) (s mid : State) (ds : Action (List Value)) (identifiers : List ℕ) (value : InstructionValue)
-    (span : Option Span) (g : Extends s mid) where
-  pub added_asked : (event : List Value → Event)
-      → ((store : Store)
-      → act (length mid.env.identifiers) value store ≡ Asks (event (map store identifiers)) (gives (length mid.env.identifiers)))
-      → RunsAll world ds s mid identifiers
-      → RunsAll world
-      (λ ways k. ds ways (λ vs source answers. fired (set_open world.opens) (event vs) source answers (λ a. k (vs ++ a.value ∷ []))
-      ways.throws))
-      s (with_value mid value span)
-      (identifiers ++ length mid.env.identifiers ∷ [])
-  added_asked event acts rs =
-      added_runs world s mid (with_value mid value span) ds identifiers g (extends_value mid value span) rs
-      (λ vs ways k source answers. fired (set_open world.opens) (event vs) source answers (λ a. k a.value) ways.throws)
-      (length mid.env.identifiers) (over_asked world mid identifiers value span event acts)
-
-  pub added_kept : (event : List Value → Event) (kept : List Value → Value)
-      → ((store : Store)
-      → act (length mid.env.identifiers) value store ≡ Asks (event (map store identifiers))
-      (keeps (length mid.env.identifiers) (kept (map store identifiers))))
-      → RunsAll world ds s mid identifiers
-      → RunsAll world
-      (λ ways k. ds ways (λ vs source answers. fired (set_open world.opens) (event vs) source answers (λ a. k (vs ++ kept vs ∷ []))
-      ways.throws))
-      s (with_value mid value span)
-      (identifiers ++ length mid.env.identifiers ∷ [])
-  added_kept event kept acts rs =
-      added_runs world s mid (with_value mid value span) ds identifiers g (extends_value mid value span) rs
-      (λ vs ways k source answers. fired (set_open world.opens) (event vs) source answers (λ a. k (kept vs)) ways.throws)
-      (length mid.env.identifiers) (over_kept world mid identifiers value span event kept acts)
-
-  pub added_given : (given : List Value → Value)
-      → ((store : Store)
-      → act (length mid.env.identifiers) value store ≡ Computes (given (map store identifiers)) (length mid.env.identifiers ∷ []))
-      → RunsAll world ds s mid identifiers
-      → RunsAll world (λ ways k. ds ways (λ vs. k (vs ++ given vs ∷ []))) s (with_value mid value span)
-      (identifiers ++ length mid.env.identifiers ∷ [])
-  added_given given acts rs =
-      added_runs world s mid (with_value mid value span) ds identifiers g (extends_value mid value span) rs (λ vs ways k. k (given vs))
-      (length mid.env.identifiers) (over_given world mid identifiers value span given acts)
 
 -- Some of the values, in an order of their own.
 pub arranged_runs : (world : World) (s new : State) (ds : Action (List Value)) (identifiers those : List ℕ)

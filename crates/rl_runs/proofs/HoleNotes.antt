@@ -1,6 +1,5 @@
 -- Notes that are read, and steps, of holes and of branches.
-use Rattle.std.proofs.Common.{◌≡◌, ℕ, ◌<◌, ◌≤◌, inl, inr, List, [], ◌∷◌, slice_get, Option, Some, refl, subst, arith}
-use Rattle.rl_base.specs.declared.ids.InstructionId.{InstructionId}
+use Rattle.std.proofs.Common.{◌≡◌, ℕ, ◌<◌, ◌≤◌, inl, inr, List, [], ◌∷◌, Option, refl, subst, arith}
 use Rattle.rl_builder.specs.Builder.{completed_by, new_block, reserved, with_temporary}
 use Rattle.rl_builder.specs.declared.blocks.WipBlock.{WipBlock}
 use Rattle.rl_builder.specs.declared.jumps.JumpScope.{JumpScope}
@@ -11,18 +10,13 @@ use Rattle.rl_hir.specs.declared.function.BlockKind.{BlockKind}
 use Rattle.rl_hir.specs.declared.instruction.InstructionValue.{InstructionValue}
 use Rattle.rl_hir.specs.declared.terminal.GotoVariant.{GotoVariant}
 use Rattle.rl_hir.specs.declared.terminal.Terminal.{Terminal}
-use Rattle.rl_hir.specs.declared.terminal.TerminalKind.{TerminalKind}
-use Rattle.rl_machine.specs.Prunes.{ReadsNote}
 use Rattle.rl_runs.proofs.Common.{BlockId, Instruction, Span, State}
 use Rattle.rl_runs.proofs.Moves.{extends_pushed}
 use Rattle.rl_runs.proofs.Naming.{named_first, named_none}
 use Rattle.rl_runs.proofs.ReadNotes.{marked_ended, unread_ended, unread_plain, unread_pushed, unread_then}
-use Rattle.rl_runs.proofs.StepNotes.{listed_aside, listed_ended, none_at, none_listed, steps_aside, steps_ended}
-use Rattle.rl_runs.specs.Blocks.{ByBreak, ByContinue, ByHandler, IsTarget}
 use Rattle.rl_runs.specs.Moves.{goto, next_hole, set_aside, stacked}
-use Rattle.rl_runs.specs.ReadNotes.{HasId, IsHandler, KeepsUnread, KnowsReads, MarkedAt}
+use Rattle.rl_runs.specs.ReadNotes.{HasId, KeepsUnread, KnowsReads, MarkedAt}
 use Rattle.rl_runs.specs.ReadNotes.{ReadsSince, ReplacesSince, Unread, reads_of, replaced_of}
-use Rattle.rl_runs.specs.StepNotes.{HasStep, KeepsSteps, KnowsListed, StepIn, Stepless}
 
 -- A list of marks that is empty.
 none_marked : (ids : List BlockId) (id : ℕ) → ids ≡ [] → HasId ids id → ⊥
@@ -39,15 +33,6 @@ unread_kept s t same = record {
   reads = λ id m. inl (subst (λ (blocks : List BlockPair). MarkedAt reads_of blocks id) same m);
   unread = λ k u id m n. u id (subst (λ (blocks : List BlockPair). MarkedAt replaced_of blocks id) same m)
       (subst (λ (blocks : List BlockPair). MarkedAt reads_of blocks id) same n);
-}
-
-pub steps_same : (s : State) (env : Environment) → KeepsSteps s (record s { env = env })
-steps_same s env = record {
-  since = λ k id h. inl (elim h [
-    | inl d ↦ inl (record { block = d.block; one = d.one; named = d.named; step = d.step })
-    | inr w ↦ inr w
-  ]);
-  listed = λ k. record { done = k.done; current = k.current };
 }
 
 -- A value goes into a fresh identifier.
@@ -91,48 +76,6 @@ module _ (r s2 : State) (wip : WipBlock) (scopes scopes2 : List JumpScope) (hand
     unread = λ kn u. unread_plain (stacked s2 scopes2 handlers2) t r.current no_replaced no_reads
         (k.unread (record { replaced = kn.replaced; read = kn.read; handlers = kn.handlers; apart = kn.apart }) u);
   }
-
-  -- The block in its place begins without instructions.
-  pub steps_hole : wip.instructions ≡ []
-      → ((number : ℕ) (i : Instruction) → slice_get r.table number ≡ Some i → slice_get s2.table number ≡ Some i)
-      → KeepsSteps (set_aside r wip scopes r.handlers) s2
-      → KeepsSteps r (completed_by (stacked s2 scopes2 handlers2) t r.current)
-  steps_hole blank larger k = record {
-    since = λ l id h. elim (steps_aside r (stacked s2 scopes2 handlers2) t larger l id h) [
-      | inl h2 ↦ elim (k.since (in_hole l) id (of_stacked h2)) [ inl h3 ↦ inl (of_hole h3) | inr above ↦ inr above ]
-      | inr own ↦ inl own
-    ];
-    listed = λ l. listed_aside r (stacked s2 scopes2 handlers2) t larger l (on_stacked (k.listed (in_hole l)));
-  }
-    where
-      in_hole : KnowsListed r → KnowsListed (set_aside r wip scopes r.handlers)
-      in_hole l = record {
-        done = l.done;
-        current = λ place number at. absurd (none_at place number
-            (subst (λ (ids : List InstructionId). slice_get ids place ≡ Some number) blank at));
-      }
-
-      on_stacked : KnowsListed s2 → KnowsListed (stacked s2 scopes2 handlers2)
-      on_stacked l = record { done = l.done; current = l.current }
-
-      of_stacked : {id : ℕ} → StepIn (stacked s2 scopes2 handlers2) id → StepIn s2 id
-      of_stacked {id} h = elim h [
-        | inl d ↦ inl (record { block = d.block; one = d.one; named = d.named; step = d.step })
-        | inr w ↦ inr w
-      ]
-
-      of_hole : {id : ℕ} → StepIn (set_aside r wip scopes r.handlers) id → StepIn r id
-      of_hole {id} h = elim h [
-        | inl d ↦ inl (record { block = d.block; one = d.one; named = d.named; step = d.step })
-        | inr w ↦ absurd (none_listed r.table (subst (λ (ids : List InstructionId). HasStep r.table ids) blank w.1))
-      ]
-
--- The current block ends, and an empty one goes on.
-pub steps_closed : (s : State) (t : Terminal) (next : WipBlock) → next.instructions ≡ [] → KeepsSteps s (completed_by s t next)
-steps_closed s t next blank = record {
-  since = λ l id h. inl (steps_ended s t next id blank h);
-  listed = λ l. listed_ended s t next blank l;
-}
 
 -- A part that numbers the block behind it at first, and at last ends by a branch that reads the note of that block.
 pub unread_branched : (s t : State) (env : Environment) (end : Terminal) (next : WipBlock) (behind : BlockId)
@@ -184,37 +127,3 @@ unread_branched s t env end next behind no_replaced one_read low high grows k = 
           handlers = λ id1 q. (let small : id1 < s.env.next_block = kn.handlers id1 q in omega (arith, small, low, high));
           apart = kn.apart;
         }
-
--- From a builder without blocks and handlers on, no note is read of a block behind a construct whose terminal may be replaced.
-pub unread_whole : (s t : State) → s.completed ≡ [] → s.handlers ≡ [] → KeepsUnread s t → Unread t
-unread_whole s t blocks handlers k = k.unread knows (λ id m n. absurd (none_complete id m))
-  where
-    none_at : (index : ℕ) (block : BlockPair) → slice_get {X = BlockPair} [] index ≡ Some block → ⊥
-    none_at index block at = absurd (cc)
-
-    none_complete : {of : TerminalKind → List BlockId} (id : ℕ) → MarkedAt of s.completed id → ⊥
-    none_complete {of} id m =
-        none_at m.one.index m.block (subst (λ (l : List BlockPair). slice_get l m.one.index ≡ Some m.block) blocks m.one.found)
-
-    no_target : (id : ℕ) → IsTarget [] [] id → ⊥
-    no_target id (ByHandler index block at) = let never : slice_get {X = BlockId} [] index ≡ Some block = at in absurd (cc)
-    no_target id (ByBreak index scope at) = let never : slice_get {X = JumpScope} [] index ≡ Some scope = at in absurd (cc)
-    no_target id (ByContinue index scope block at to) = let never : slice_get {X = JumpScope} [] index ≡ Some scope = at in absurd (cc)
-
-    no_handler : (id : ℕ) → IsHandler s id → ⊥
-    no_handler id q = no_target id (subst (λ (l : List BlockId). IsTarget l [] id) handlers q)
-
-    knows : KnowsReads s
-    knows = record {
-      replaced = λ id m. absurd (none_complete id m);
-      read = λ id m. absurd (none_complete id m);
-      handlers = λ id q. absurd (no_handler id q);
-      apart = λ id q m. no_handler id q;
-    }
-
--- No instruction of the table is a step.
-pub stepless_plain : (s : State) → ((number : ℕ) (i : Instruction) → slice_get s.table number ≡ Some i → ReadsNote i → ⊥) → Stepless s
-stepless_plain s none id m h = elim h [
-  | inl d ↦ none d.step.number.0 d.step.instruction d.step.kept d.step.reads
-  | inr w ↦ none w.1.number.0 w.1.instruction w.1.kept w.1.reads
-]

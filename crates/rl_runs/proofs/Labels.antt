@@ -1,9 +1,9 @@
 -- The ways that loops, `switch` statements and labels leave to the statements in them.
-use Rattle.std.proofs.Common.{◌≡◌, ℕ, Bool, true, false, if◌then◌else◌, List, Some, None, refl, ap}
+use Rattle.std.proofs.Common.{◌≡◌, Bool, true, false, if◌then◌else◌, Some, None, refl, ap}
 use Rattle.std.specs.Str.{bytes_eq}
 use Rattle.rl_machine.specs.Traces.{Cont, waiting}
-use Rattle.rl_model.specs.Actions.{Action, Label, Ways, body_of_loop, breakable, is_label, is_own, labeled}
-use Rattle.rl_runs.specs.Exits.{is_named, label_ways, labeled_by, loop_ways, switch_ways}
+use Rattle.rl_model.specs.Actions.{Action, Label, Ways, body_of_loop, breakable, is_label, is_own}
+use Rattle.rl_runs.specs.Exits.{is_named, labeled_by, loop_ways, switch_ways}
 
 -- Functions that agree everywhere are equal.
 same_everywhere : {A B : Type 0} (f g : A → B) → ((a : A) → f a ≡ g a) → f ≡ g
@@ -44,8 +44,3 @@ loop_body own body behind astray again ways =
     by_jump label None = refl
     by_jump None (Some x) = refl
     by_jump (Some label) (Some x) = once (bytes_eq label x) astray (ways.continues (Some x))
-
--- A labelled statement that is no loop.
-pub labeled_ways : (own : List ℕ) (action : Action (Unit {0})) (ways : Ways) (onward : Unit {0} → Cont)
-    → labeled own action ways onward ≡ action (label_ways own (onward (tt {0})) (λ store answers. waiting) ways) onward
-labeled_ways own action ways onward = refl

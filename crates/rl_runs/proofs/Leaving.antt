@@ -179,11 +179,6 @@ abbrev pub outs_by : Label → Outs → Outs
 outs_by None outs = outs
 outs_by (Some label) outs = labeled_outs label outs
 
--- A loop that can fall by itself completes, whatever its label.
-pub loop_falls : (own : Label) (body : Outs) → (outs_by own (loop_outs own true body)).falls ≡ true
-loop_falls None body = refl
-loop_falls (Some label) body = refl
-
 -- The body of a loop, whose jumps lead to their targets in its scope.
 module _ (led : ℕ → Type 0) (outer : List JumpScope) (own : Label) (again behind : BlockId) (body : Outs)
     (breaks : All (BreakLeads led (outer ++ scopes.Loop own again behind ∷ [])) body.breaks)

@@ -21,7 +21,6 @@ pub mod Moves
 pub mod Naming
 pub mod Ordered
 pub mod Passing
-pub mod Permuted
 pub mod Points
 pub mod Preserving
 pub mod Properties
@@ -30,7 +29,6 @@ pub mod Shared
 pub mod Sizes
 pub mod Statements
 pub mod StepNotes
-pub mod Stepless
 pub mod Steps
 pub mod Successors
 pub mod Switches

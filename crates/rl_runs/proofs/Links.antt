@@ -1,20 +1,18 @@
 -- Links of optional chains, and values that several ways compute.
 use Rattle.std.proofs.Common.{◌≡◌, ℕ, ◌<◌, ◌≤◌, List, [], ◌∷◌, length, Some, refl, ap, ◌∙◌, arith}
 use Rattle.std.proofs.lemmas.List.Elements.{All-cons, All-nil}
-use Rattle.rl_builder.specs.Builder.{innermost}
 use Rattle.rl_hir.specs.declared.instruction.InstructionKind.TheVariants as variables
 use Rattle.rl_hir.specs.declared.instruction.InstructionValue.TheVariants as values
 use Rattle.rl_hir.specs.declared.instruction.Place.{Place}
 use Rattle.rl_machine.specs.declared.trace.Trace.{Trace}
 use Rattle.rl_machine.specs.Ends.{Notes}
 use Rattle.rl_machine.specs.Traces.{ValueCont, set}
-use Rattle.rl_model.specs.Actions.{Action, Ways}
+use Rattle.rl_model.specs.Actions.{Action}
 use Rattle.rl_runs.proofs.Common.{Answer, Code, Span, State, Store, Value, World}
 use Rattle.rl_runs.proofs.Holes.{computes_on}
 use Rattle.rl_runs.proofs.Moves.{value_free}
-use Rattle.rl_runs.proofs.Steps.{follows_then, set_other, set_same, since_set, since_then, throws_then}
-use Rattle.rl_runs.specs.Continuations.{Continues, Follows, Inside, Range, SharesVariables, Since, Throws, TracesAt, TracesFrom}
-use Rattle.rl_runs.specs.Continuations.{between}
+use Rattle.rl_runs.proofs.Steps.{set_other, set_same, since_set}
+use Rattle.rl_runs.specs.Continuations.{Continues, Range, Since, TracesAt, TracesFrom}
 use Rattle.rl_runs.specs.Facts.{HasSoundNames, IsContainedIn, Nobody}
 use Rattle.rl_runs.specs.Moves.{stored_in}
 use Rattle.rl_runs.specs.Simulation.{RunsExpression, RunsLink, RunsLinks}
@@ -45,23 +43,6 @@ links_one world old new d alternate identifier r = record {
             (ap (λ (x : Value). x ∷ []) is);
       });
 }
-
-module _ {c : Code} {r : Range} {store : Store} {notes : Notes} {answers : List Answer} {world : World} where
-  -- The runs of a link, seen from an earlier point of the run.
-  pub use_link : {d : Action Value} {old new : State} {alternate identifier : ℕ} {source1 store1 : Store} {notes1 : Notes}
-      {answers1 : List Answer} (ways : Ways) (k : ValueCont)
-      → RunsLink world d old new alternate identifier → IsContainedIn new c → HasSoundNames old → SharesVariables c.ident world c.world
-      → Inside r (between old new) → Throws c r store notes answers (innermost old.handlers) ways.throws
-      → Follows c r store notes answers alternate 0 ways.short → Since c r store notes answers source1 store1 notes1 answers1
-      → ((v : Value) (source2 store2 : Store) (notes2 : Notes) (answers2 : List Answer)
-      → Since c r store notes answers source2 store2 notes2 answers2
-      → Since c (between old new) store1 notes1 answers1 source2 store2 notes2 answers2 → store2 identifier ≡ v
-      → TracesAt c new.current.id.0 (length new.current.instructions) store2 notes2 answers2 (k v source2 answers2))
-      → TracesFrom c old store1 notes1 answers1 (d ways k source1 answers1)
-  use_link {d} {old} {new} {alternate} {identifier} {source1} {store1} {notes1} {answers1} ways k runs cover sound shares part throws early t go =
-      runs.runs c cover sound shares ways k source1 store1 notes1 answers1 t.agrees
-      (throws_then (innermost old.handlers) ways.throws part t.later throws) (follows_then part t.later early)
-      (record { goes = λ v source2 store2 notes2 answers2 u is. go v source2 store2 notes2 answers2 (since_then part t.later u) u is })
 
 module _ {c : Code} {r : Range} {store : Store} {notes : Notes} {answers : List Answer} where
   -- A value goes into a place that was made before, and the run jumps on.

@@ -1,11 +1,11 @@
 -- The moves of a builder keep what blocks list.
-use Rattle.std.proofs.Common.{◌≡◌, ℕ, zero, suc, ◌+◌, ◌<◌, ◌≤◌, inl, inr, ◌++◌, Bool, true, false, cond, List, [], ◌∷◌, All, filter}
+use Rattle.std.proofs.Common.{◌≡◌, ℕ, zero, suc, ◌+◌, ◌<◌, ◌≤◌, inl, inr, ◌++◌, false, List, [], ◌∷◌, All}
 use Rattle.std.proofs.Common.{length, length-append, append-nil, append_assoc, map, Option, Some, None, refl, sym, ap, ◌∙◌, subst}
 use Rattle.std.proofs.Common.{arith}
 use Rattle.std.proofs.lemmas.List.{map-append}
 use Rattle.std.proofs.lemmas.List.Elements.{All-append, All-nil, All-push}
-use Rattle.rl_base.proofs.DistinctLists.{IsIn, distinct_append, distinct_apart, distinct_left, distinct_none, distinct_push}
-use Rattle.rl_base.proofs.DistinctLists.{distinct_right, in_either, in_left, in_right}
+use Rattle.rl_base.proofs.DistinctLists.{IsIn, distinct_none, distinct_push}
+use Rattle.rl_base.proofs.DistinctLists.{in_either}
 use Rattle.rl_base.specs.declared.ids.InstructionId.{InstructionId}
 use Rattle.rl_base.specs.Distinct.{AreDistinct}
 use Rattle.rl_builder.specs.Builder.{completed_by, ended_by, innermost, maybe_throw, new_block, plainly_pushed, pushed}
@@ -184,31 +184,3 @@ listed_none s completed instructions table = record {
     nothing =
         ap (λ (blocks : List BlockPair). listed_in blocks ++ numbers s.current.instructions) completed
         ∙ ap (λ (ids : List InstructionId). numbers ids) instructions
-
-in_kept : (p : BlockPair → Bool) (blocks : List BlockPair) (index : ℕ) → IsIn (listed_in (filter p blocks)) index
-    → IsIn (listed_in blocks) index
-in_kept p [] index h = h
-in_kept p (b ∷ blocks) index h = by_test (p b) (in_kept p blocks index) h
-  where
-    by_test : (t : Bool) → (IsIn (listed_in (filter p blocks)) index → IsIn (listed_in blocks) index)
-        → IsIn (listed_in (cond t (b ∷ filter p blocks) (filter p blocks))) index → IsIn (listed_in (b ∷ blocks)) index
-    by_test false rest is = in_right (numbers b.1.instructions) (listed_in blocks) index (rest is)
-    by_test true rest is = elim (in_either (numbers b.1.instructions) (listed_in (filter p blocks)) index is) [
-      | inl own ↦ in_left (numbers b.1.instructions) (listed_in blocks) index own
-      | inr later ↦ in_right (numbers b.1.instructions) (listed_in blocks) index (rest later)
-    ]
-
--- Blocks that are kept list each index once if all do.
-pub kept_once : (p : BlockPair → Bool) (blocks : List BlockPair) → AreDistinct (listed_in blocks)
-    → AreDistinct (listed_in (filter p blocks))
-kept_once p [] once = once
-kept_once p (b ∷ blocks) once =
-    by_test (p b) (kept_once p blocks (distinct_right (numbers b.1.instructions) (listed_in blocks) once))
-  where
-    by_test : (t : Bool) → AreDistinct (listed_in (filter p blocks))
-        → AreDistinct (listed_in (cond t (b ∷ filter p blocks) (filter p blocks)))
-    by_test false rest = rest
-    by_test true rest =
-        let own : List ℕ = numbers b.1.instructions in
-        distinct_append own (listed_in (filter p blocks)) (distinct_left own (listed_in blocks) once) rest
-        (λ index here later. distinct_apart own (listed_in blocks) once index here (in_kept p blocks index later))

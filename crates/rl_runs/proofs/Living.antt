@@ -42,6 +42,3 @@ module _ {K : Type 0} (key_of : Instruction → Option K) where
         (record { id = s.current.id.0; place = length s.current.instructions; instruction = i; there = instruction_met s i c cover; is = is; reached = r })
         (All-nil (Stands key_of c entry));
   }
-
-  pub lives_keyless : (s : State) (i : Instruction) → Lives key_of [] true s (pushed s i)
-  lives_keyless s i = lives_none s (pushed s i) true (λ on. passes_pushed s i)

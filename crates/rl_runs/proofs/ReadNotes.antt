@@ -56,9 +56,6 @@ unread_plain x t next no_replaced no_reads u id m n = elim (marked_ended replace
 
 -- No part, and one part behind another.
 
-pub unread_refl : (s : State) → KeepsUnread s s
-unread_refl s = record { replaces = λ id m. inl m; reads = λ id m. inl m; unread = λ k u. u }
-
 pub unread_then : (a b c : State) → a.env.next_block ≤ b.env.next_block → b.env.next_block ≤ c.env.next_block → b.handlers ≡ a.handlers
     → KeepsUnread a b → KeepsUnread b c → KeepsUnread a c
 unread_then a b c first second same f g = record {

@@ -1,10 +1,8 @@
 -- The numbers of blocks, types, identifiers and instructions that moves add, together.
-use Rattle.std.proofs.Common.{◌≡◌, ℕ, ◌+◌, ◌≤◌, ◌++◌, List, [], ◌∷◌, length, length-append, Option, Some, None, arith}
+use Rattle.std.proofs.Common.{◌≡◌, ◌+◌, ◌≤◌, ◌++◌, [], ◌∷◌, length, length-append, Option, Some, None, arith}
 use Rattle.rl_builder.specs.Builder.{innermost, pushed, pushed_under, with_temporary}
-use Rattle.rl_builder.specs.Names.{resolved, resolved_by}
 use Rattle.rl_builder.specs.Temporaries.{temporary, unordered, with_value}
 use Rattle.rl_hir.specs.declared.instruction.InstructionValue.{InstructionValue}
-use Rattle.rl_hir.specs.Pairs.{identifier_of}
 use Rattle.rl_runs.proofs.Common.{BlockId, Instruction, Span, State}
 use Rattle.rl_runs.specs.Blocks.{size_of}
 
@@ -22,13 +20,3 @@ size_temporary s span = simp length-append (omega arith)
 pub size_value : (s : State) (v : InstructionValue) (span : Option Span) → size_of (with_value s v span) ≤ size_of s + 4
 size_value s v span =
     omega (arith, size_temporary s span, size_pushed (with_temporary s span) (unordered (temporary s span) v span))
-
-resolved_by_size : (known : Option ℕ) (s : State) (name : List ℕ) (symbol : ℕ) (given : Option Span)
-    → size_of (resolved_by known s name symbol given) ≤ size_of s + 2
-resolved_by_size None s name symbol given = simp length-append (omega arith)
-resolved_by_size (Some known) s name symbol given = omega arith
-
--- A symbol that is looked up gets an identifier, of a type variable of its own, or has one.
-pub size_resolved : (s : State) (name : List ℕ) (symbol : ℕ) (given : Option Span)
-    → size_of (resolved s name symbol given) ≤ size_of s + 2
-size_resolved s name symbol given = resolved_by_size (identifier_of s.bindings symbol) s name symbol given

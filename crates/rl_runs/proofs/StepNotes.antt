@@ -1,17 +1,16 @@
 -- Steps of loops, move by move.
-use Rattle.std.proofs.Common.{◌≡◌, ℕ, zero, suc, ◌+◌, ◌<◌, ◌≤◌, ◌⊎◌, inl, inr, ◌++◌, List, [], ◌∷◌, length, length-append, slice_get}
-use Rattle.std.proofs.Common.{Option, Some, None, refl, sym, ap, ◌∙◌, subst, arith}
+use Rattle.std.proofs.Common.{◌≡◌, ℕ, zero, suc, ◌<◌, ◌⊎◌, inl, inr, List, [], ◌∷◌, length, slice_get}
+use Rattle.std.proofs.Common.{Some, refl, sym, ap, ◌∙◌, subst, arith}
 use Rattle.std.proofs.lemmas.Option.{slice_get_within}
 use Rattle.rl_base.specs.declared.ids.InstructionId.{InstructionId}
-use Rattle.rl_builder.specs.Builder.{completed_by, ended_by, innermost, maybe_throw, new_block, plainly_pushed, pushed}
-use Rattle.rl_builder.specs.Builder.{pushed_under, reserved}
+use Rattle.rl_builder.specs.Builder.{completed_by, ended_by}
 use Rattle.rl_builder.specs.declared.blocks.WipBlock.{WipBlock}
 use Rattle.rl_hir.specs.Blocks.{Pair as BlockPair}
 use Rattle.rl_hir.specs.declared.terminal.Terminal.{Terminal}
 use Rattle.rl_machine.specs.Prunes.{ReadsNote}
-use Rattle.rl_runs.proofs.Common.{BlockId, Instruction, State}
-use Rattle.rl_runs.proofs.Steps.{added_cases, get_more}
-use Rattle.rl_runs.specs.StepNotes.{AreIn, HasStep, KeepsSteps, KnowsListed, StepIn}
+use Rattle.rl_runs.proofs.Common.{Instruction, State}
+use Rattle.rl_runs.proofs.Steps.{added_cases}
+use Rattle.rl_runs.specs.StepNotes.{AreIn, HasStep, KnowsListed, StepIn}
 
 pub none_at : (place : ℕ) (number : InstructionId) → slice_get {X = InstructionId} [] place ≡ Some number → ⊥
 none_at place number at = absurd (cc)
@@ -73,89 +72,3 @@ module _ (s s2 : State) (t : Terminal)
     ];
     current = λ place number at. (let old = found_below s.table number.0 (k.current place number at) in slice_get_within s2.table number.0 old.0 (larger number.0 old.0 old.1));
   }
-
--- No part, and one part behind another.
-
-pub steps_refl : (s : State) → KeepsSteps s s
-steps_refl s = record { since = λ k id h. inl h; listed = λ k. k }
-
-pub steps_then : (a b c : State) → a.env.next_block ≤ b.env.next_block → KeepsSteps a b → KeepsSteps b c → KeepsSteps a c
-steps_then a b c first f g = record {
-  since = λ k id h. elim (g.since (f.listed k) id h) [ inl h1 ↦ f.since k id h1 | inr above ↦ inr (omega (arith, above, first)) ];
-  listed = λ k. g.listed (f.listed k);
-}
-
--- An instruction that is no step.
-
--- A list of ids meets a table with one more instruction.
-before_more : (table : List Instruction) (i : Instruction) (listed : List InstructionId) → AreIn table listed
-    → HasStep (table ++ i ∷ []) listed → HasStep table listed
-before_more table i listed below h =
-    let old = found_below table h.number.0 (below h.place h.number h.at) in
-    let both : Some old.0 ≡ Some h.instruction = sym (get_more table (i ∷ []) h.number.0 old.0 old.1) ∙ h.kept in
-    let same : h.instruction ≡ old.0 = cc in
-    record { place = h.place; number = h.number; instruction = old.0; at = h.at; kept = old.1; reads = subst ReadsNote same h.reads }
-
-in_more : (table : List Instruction) (i : Instruction) (listed : List InstructionId) → AreIn table listed
-    → AreIn (table ++ i ∷ []) listed
-in_more table i listed below place number at =
-    let under : number.0 < length table = below place number at in
-    let one : length (table ++ i ∷ []) ≡ length table + 1 = length-append table (i ∷ []) in
-    omega (arith, under, one)
-
-module _ (s : State) (i : Instruction) (no_step : ReadsNote i → ⊥) where
-  one : length (s.table ++ i ∷ []) ≡ length s.table + 1
-  one = length-append s.table (i ∷ [])
-
-  -- The instruction is the last of the table.
-  last_is : (found : Option Instruction) → slice_get (s.table ++ i ∷ []) (length s.table) ≡ found → found ≡ Some i
-  last_is found is = sym is ∙ by_table s.table
-    where
-      by_table : (xs : List Instruction) → slice_get (xs ++ i ∷ []) (length xs) ≡ Some i
-      by_table [] = refl
-      by_table (x ∷ xs) = by_table xs
-
-  step_before : KnowsListed s → HasStep (s.table ++ i ∷ []) (s.current.instructions ++ record { 0 = length s.table } ∷ [])
-      → HasStep s.table s.current.instructions
-  step_before k h = elim (added_cases s.current.instructions (record { 0 = length s.table }) h.place h.number h.at) [
-    | inl at ↦ before_more s.table i s.current.instructions k.current (record { place = h.place; number = h.number; instruction = h.instruction; at = at; kept = h.kept; reads = h.reads })
-    | inr e ↦ (let kept : slice_get (s.table ++ i ∷ []) (length s.table) ≡ Some h.instruction = ap (λ (n : InstructionId). slice_get (s.table ++ i ∷ []) n.0) (sym e) ∙ h.kept in
-        let both : Some h.instruction ≡ Some i = last_is (Some h.instruction) kept in
-        let same : h.instruction ≡ i = cc in
-        absurd (no_step (subst ReadsNote same h.reads)))
-  ]
-
-  steps_plain : KnowsListed s → (id : ℕ) → StepIn (plainly_pushed s i) id → StepIn s id
-  steps_plain k id h = elim h [
-    | inl d ↦ inl (record { block = d.block; one = d.one; named = d.named; step = before_more s.table i d.block.1.instructions (k.done d.block d.one) d.step })
-    | inr w ↦ inr (w.0, step_before k w.1)
-  ]
-
-  listed_plain : KnowsListed s → KnowsListed (plainly_pushed s i)
-  listed_plain k = record {
-    done = λ b there. in_more s.table i b.1.instructions (k.done b there);
-    current = λ place number at. elim (added_cases s.current.instructions (record { 0 = length s.table }) place number at) [
-      | inl old ↦ in_more s.table i s.current.instructions k.current place number old
-      | inr e ↦ (let same : number.0 ≡ length s.table = ap (λ (n : InstructionId). n.0) e in omega (arith, same, one))
-    ];
-  }
-
-  steps_under : (o : Option BlockId) → KeepsSteps s (pushed_under o s i)
-  steps_under None = record { since = λ k id h. inl (steps_plain k id h); listed = listed_plain }
-  steps_under (Some handler) = record {
-    since = λ k id h. inl
-        (steps_plain k id (back
-        (steps_ended (reserved (plainly_pushed s i)) (maybe_throw s.env.next_block handler i.span)
-        (new_block s.env.next_block s.current.kind) id refl h)));
-    listed = λ k. listed_ended (reserved (plainly_pushed s i)) (maybe_throw s.env.next_block handler i.span)
-        (new_block s.env.next_block s.current.kind) refl (on (listed_plain k));
-  }
-    where
-      back : {id : ℕ} → StepIn (reserved (plainly_pushed s i)) id → StepIn (plainly_pushed s i) id
-      back {id} h = elim h [ inl d ↦ inl (record { block = d.block; one = d.one; named = d.named; step = d.step }) | inr w ↦ inr w ]
-
-      on : KnowsListed (plainly_pushed s i) → KnowsListed (reserved (plainly_pushed s i))
-      on k = record { done = k.done; current = k.current }
-
-  pub steps_pushed : KeepsSteps s (pushed s i)
-  steps_pushed = steps_under (innermost s.handlers)

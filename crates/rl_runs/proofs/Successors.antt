@@ -3,7 +3,6 @@ use Rattle.std.proofs.Common.{◌≡◌, ◌⊎◌, inl, inr, Bool, true, ◌||�
 use Rattle.std.specs.List.{list_any}
 use Rattle.rl_base.specs.declared.ids.BlockId.{BlockId}
 use Rattle.rl_hir.specs.declared.function.BasicBlock.{BasicBlock}
-use Rattle.rl_hir.specs.declared.terminal.Terminal.{Terminal}
 use Rattle.rl_hir.specs.Terminals.{Field, Leads, MayLead, Chooses, Follows, Names, MayName, Reads, MayBind, Says, Holds, fallthrough}
 use Rattle.rl_hir.specs.Terminals.{fields_of, follows, leads, listed_id, named_ids, names, successor_ids}
 use Rattle.rl_order.proofs.Ordering.{any_append, either, or_left, or_right}
@@ -47,9 +46,6 @@ module _ (test : BlockId → Bool) where
   followed_named (MayBind p ∷ fields) h = followed_named fields h
   followed_named (Says text ∷ fields) h = followed_named fields h
   followed_named (Holds flag ∷ fields) h = followed_named fields h
-
-  pub successor_named : (t : Terminal) → list_any test (successor_ids t) ≡ true → list_any test (named_ids t) ≡ true
-  successor_named t h = led_named (fields_of t.kind) h
 
   pub leads_named : (block : BasicBlock) → list_any test (leads_to block) ≡ true → list_any test (named_ids block.terminal) ≡ true
   leads_named block h =

@@ -1,5 +1,5 @@
 -- Blocks with distinct ids are their own table.
-use Rattle.std.proofs.Common.{◌≡◌, ℕ, ◌++◌, inl, inr, Bool, true, false, List, [], ◌∷◌, fold, refl, sym, ap, ◌∙◌, subst, append-nil}
+use Rattle.std.proofs.Common.{◌≡◌, ℕ, zero, suc, Some, slice_get, ◌++◌, inl, inr, Bool, true, false, List, [], ◌∷◌, fold, refl, sym, ap, ◌∙◌, subst, append-nil}
 use Rattle.std.proofs.Common.{append_assoc}
 use Rattle.rl_base.proofs.DistinctLists.{IsIn, distinct_head, distinct_tail, in_either, in_head, in_none, in_tail}
 use Rattle.rl_base.specs.declared.ids.BlockId.{BlockId}
@@ -7,7 +7,14 @@ use Rattle.rl_builder.specs.Build.{table_of}
 use Rattle.rl_hir.specs.Blocks.{HaveOwnIds, Pair, ids, same_id, with_block}
 use Rattle.rl_hir.specs.declared.function.BasicBlock.{BasicBlock}
 use Rattle.rl_order.proofs.Follows.{one_id}
-use Rattle.rl_runs.proofs.Permuted.{in_one}
+
+-- A list of one element has no other.
+in_one : (a b : ℕ) → IsIn (a ∷ []) b → b ≡ a
+in_one a b h = by_index h.index h.found
+  where
+    by_index : (index : ℕ) → slice_get (a ∷ []) index ≡ Some b → b ≡ a
+    by_index zero found = cc
+    by_index (suc index) found = absurd (cc)
 
 put_last : (pairs : List Pair) (id : BlockId) (block : BasicBlock) → (IsIn (ids pairs) id.0 → ⊥)
     → with_block pairs id block ≡ pairs ++ (id, block) ∷ []

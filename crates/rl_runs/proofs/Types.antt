@@ -1,5 +1,5 @@
 -- Type variables: a state with one more, and the runs of a value under a type.
-use Rattle.std.proofs.Common.{◌≡◌, ◌+◌, inl, inr, [], ◌∷◌, length, Option, refl, arith}
+use Rattle.std.proofs.Common.{inl, inr, [], ◌∷◌, length, Option, refl, arith}
 use Rattle.rl_builder.specs.Builder.{with_type}
 use Rattle.rl_builder.specs.Temporaries.{with_value}
 use Rattle.rl_hir.specs.declared.instruction.HirType.{HirType}
@@ -15,7 +15,7 @@ use Rattle.rl_runs.proofs.Moves.{extends_then}
 use Rattle.rl_runs.proofs.Naming.{named_refl}
 use Rattle.rl_runs.proofs.Used.{used_refl}
 use Rattle.rl_runs.proofs.Variables.{later_runs}
-use Rattle.rl_runs.specs.Blocks.{PreservesBlocks, size_of}
+use Rattle.rl_runs.specs.Blocks.{PreservesBlocks}
 use Rattle.rl_runs.specs.Facts.{Extends}
 use Rattle.rl_runs.specs.Simulation.{RunsExpression}
 
@@ -46,9 +46,6 @@ blocks_typed s = record {
   settle = λ c cover own below jumps old. old;
   looped = λ c cover entry old. old;
 }
-
-pub size_typed : (s : State) → size_of (with_type s) ≡ size_of s + 1
-size_typed s = omega arith
 
 -- A value under a type that is known.
 pub cast_runs : (world : World) (s t : State) (d : Action Value) (p : Place) (cast : HirType) (at span : Option Span) → Extends s t

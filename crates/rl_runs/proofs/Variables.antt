@@ -6,14 +6,12 @@ use Rattle.rl_base.specs.declared.operator.UpdateOperator.{UpdateOperator}
 use Rattle.rl_builder.specs.declared.blocks.WipBlock.{WipBlock}
 use Rattle.rl_builder.specs.Names.{NamesAgree, resolved}
 use Rattle.rl_builder.specs.Temporaries.{with_value}
-use Rattle.rl_hir.specs.declared.instruction.InstructionKind.{InstructionKind}
 use Rattle.rl_hir.specs.declared.instruction.InstructionValue.{InstructionValue}
 use Rattle.rl_hir.specs.declared.instruction.InstructionValue.TheVariants as values
 use Rattle.rl_hir.specs.declared.instruction.Place.{Place}
 use Rattle.rl_hir.specs.Pairs.{identifier_of}
-use Rattle.rl_machine.specs.Acts.{Asks, Computes, Landing, act, declared, landed}
+use Rattle.rl_machine.specs.Acts.{Asks, Landing, act, landed}
 use Rattle.rl_machine.specs.declared.trace.Event.{Event}
-use Rattle.rl_machine.specs.declared.trace.Value.TheVariants as value
 use Rattle.rl_machine.specs.Traces.{fired, set, set_open}
 use Rattle.rl_model.specs.Actions.{Action, variable}
 use Rattle.rl_model.specs.Events.{update}
@@ -22,16 +20,15 @@ use Rattle.rl_model.specs.Scene.{Scene}
 use Rattle.rl_names.specs.declared.names.Meaning.TheVariants.{Local}
 use Rattle.rl_runs.proofs.Asking.{asks_on}
 use Rattle.rl_runs.proofs.Common.{Answer, Span, State, Store, Value, World}
-use Rattle.rl_runs.proofs.Expressions.{local_runs, stored_runs}
-use Rattle.rl_runs.proofs.Holes.{computes_on, same_jumps, same_throws, use_expression, use_statement}
-use Rattle.rl_runs.proofs.Moves.{contained_before, extends_refl, extends_resolved, extends_then, extends_value, inside, value_free}
+use Rattle.rl_runs.proofs.Expressions.{local_runs}
+use Rattle.rl_runs.proofs.Holes.{same_throws, use_expression}
+use Rattle.rl_runs.proofs.Moves.{contained_before, extends_refl, extends_resolved, extends_value, inside, value_free}
 use Rattle.rl_runs.proofs.Moves.{value_made}
 use Rattle.rl_runs.proofs.Shared.{since_store}
-use Rattle.rl_runs.proofs.Statements.{evaluated_runs}
 use Rattle.rl_runs.proofs.Steps.{set_same, since_set, since_start}
 use Rattle.rl_runs.specs.Continuations.{TracesAt, TracesFrom, between}
 use Rattle.rl_runs.specs.Facts.{Extends, IsContainedIn}
-use Rattle.rl_runs.specs.Simulation.{RunsExpression, RunsStatement}
+use Rattle.rl_runs.specs.Simulation.{RunsExpression}
 
 -- A part that begins at a state with the same program point as an earlier one runs from there too.
 module _ {world : World} (s s2 : State) {new : State} (g : Extends s s2) (same : s2.current ≡ s.current) where
@@ -46,18 +43,6 @@ module _ {world : World} (s s2 : State) {new : State} (g : Extends s s2) (same :
         (use_expression ways k r cover (g.sound sound) shares (inside g (extends_refl new))
         (same_throws c (between s new) store notes answers s s2 ways.throws g.handlers throws) (since_start a)
         (λ v source1 store1 notes1 answers1 t u is. onward.goes v source1 store1 notes1 answers1 t is));
-  }
-
-  pub earlier_statement : {d : Action (Unit {0})} → RunsStatement world d s2 new → RunsStatement world d s new
-  earlier_statement {d} r = record {
-    runs = λ c cover sound shares ways normal source store notes answers a throws jumps onward.
-        subst
-        (λ (w : WipBlock). TracesAt c w.id.0 (length w.instructions) store notes answers
-        (d ways (λ (end : Unit {0}). normal) source answers)) same
-        (use_statement ways normal r cover (g.sound sound) shares (inside g (extends_refl new))
-        (same_throws c (between s new) store notes answers s s2 ways.throws g.handlers throws)
-        (same_jumps c (between s new) store notes answers s s2 ways.breaks ways.continues g.scopes jumps) (since_start a)
-        (λ source1 store1 notes1 answers1 t u. onward.goes source1 store1 notes1 answers1 t));
   }
 
 -- A part that ends at a state with the same program point as a later one runs up to there too.
@@ -153,45 +138,3 @@ module _ (scene : Scene) (s mid : State) (symbol : SymbolId) (operator : UpdateO
       (changed_runs scene.world mid symbol.0 p (values.PostfixUpdate operator p p) span (λ v. update false (update_text operator) v)
       (λ v. record { given = p.identifier.0 ∷ []; taken = []; kept = (length mid.env.identifiers, v) ∷ [] }) (λ old new. old) bound
       (λ store. refl) (λ old a after. refl))
-
--- A variable of the kind is declared, and is undefined.
-pub declared_runs : (world : World) (s : State) (name : List ℕ) (symbol : ℕ) (given : Option Span) (kind : InstructionKind) (p : Place)
-    (span : Option Span)
-    → (NamesAgree s → NamesAgree (resolved s name symbol given))
-    → identifier_of (resolved s name symbol given).bindings symbol ≡ Some p.identifier.0
-    → declared kind p.identifier.0 ≡ Computes value.Undefined (p.identifier.0 ∷ [])
-    → RunsStatement world (λ ways onward source answers. onward (tt {0}) (set source symbol value.Undefined) answers) s
-    (with_value (resolved s name symbol given) (values.DeclareLocal kind p) span)
-declared_runs world s name symbol given kind p span agrees bound is =
-    earlier_statement s mid (extends_resolved s name symbol given agrees) refl (record {
-      runs = λ c cover sound shares ways normal source store notes answers a throws jumps onward.
-          let here : IsContainedIn mid c = contained_before (extends_value mid v span) cover in
-          computes_on mid v span c store notes answers (normal (set source symbol value.Undefined) answers) value.Undefined
-          (p.identifier.0 ∷ []) is cover
-          (onward.goes (set source symbol value.Undefined) (set store p.identifier.0 value.Undefined) notes answers
-          (since_store symbol p.identifier.0 value.Undefined cover.names.one
-          (here.names.kept symbol p.identifier.0 (sym (sound.same symbol) ∙ bound)) (since_start a)));
-    })
-  where
-    mid : State
-    mid = resolved s name symbol given
-
-    v : InstructionValue
-    v = values.DeclareLocal kind p
-
--- A variable is declared behind an expression, whose value it takes.
-pub initialized_runs : (world : World) (s t : State) (d : Action Value) (name : List ℕ) (symbol : ℕ) (given : Option Span)
-    (kind : InstructionKind) (p value : Place) (span : Option Span)
-    → Extends s t → (NamesAgree t → NamesAgree (resolved t name symbol given))
-    → identifier_of (resolved t name symbol given).bindings symbol ≡ Some p.identifier.0
-    → RunsExpression world d s t value.identifier.0
-    → RunsStatement world (λ ways onward. d ways (λ v source answers. onward (tt {0}) (set source symbol v) answers)) s
-    (with_value (resolved t name symbol given) (values.StoreLocal kind p value) span)
-initialized_runs world s t d name symbol given kind p value span g agrees bound r =
-    evaluated_runs world s (with_value mid (values.StoreLocal kind p value) span)
-    (λ ways k. d ways (λ v source answers. k v (set source symbol v) answers)) (length mid.env.identifiers)
-    (stored_runs world s mid d symbol kind p value span (extends_then g (extends_resolved t name symbol given agrees)) bound
-    (looked_up_last name symbol given t agrees r))
-  where
-    mid : State
-    mid = resolved t name symbol given

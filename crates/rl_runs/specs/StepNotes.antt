@@ -1,5 +1,5 @@
 -- Steps of loops: the blocks in which they stand.
-use Rattle.std.specs.Prelude.{◌≡◌, ℕ, ◌<◌, ◌≤◌, ◌⊎◌, Some, List, [], ◌∷◌, length, slice_get}
+use Rattle.std.specs.Prelude.{◌≡◌, ℕ, ◌<◌, ◌⊎◌, Some, List, [], ◌∷◌, length, slice_get}
 use Rattle.rl_base.specs.declared.ids.BlockId.{BlockId}
 use Rattle.rl_base.specs.declared.ids.InstructionId.{InstructionId}
 use Rattle.rl_builder.specs.Builder.{State}
@@ -38,11 +38,6 @@ AreIn table listed = (place : ℕ) (number : InstructionId) → slice_get listed
 pub record KnowsListed (s : State) : Type 0 where
   pub done : (block : BlockPair) → IsOneOf s.completed block → AreIn s.table block.1.instructions
   pub current : AreIn s.table s.current.instructions
-
--- Steps stand in blocks alone that were numbered since.
-pub record KeepsSteps (old new : State) : Type 0 where
-  pub since : KnowsListed old → (id : ℕ) → StepIn new id → StepIn old id ⊎ (old.env.next_block ≤ id)
-  pub listed : KnowsListed old → KnowsListed new
 
 -- The blocks at which no step of a loop may stand: the test of a `do`-`while` loop, whose note is no loop's with steps, and the blocks
 -- behind constructs whose terminals `build` may replace.

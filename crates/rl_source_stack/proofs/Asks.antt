@@ -4,7 +4,7 @@ use Rattle.std.proofs.Common.{Option, Some, None, Result, Ok, Err, IfOk, refl, a
 use Rattle.std.specs.Borrow.{Bor}
 use Rattle.rl_base.specs.declared.error.OutOfMemory.{OutOfMemory}
 use Rattle.rl_machine.specs.Machine.{set_by}
-use Rattle.rl_machine.specs.Traces.{AnswerCont, Store, asked, by_kind, set, set_open, waiting}
+use Rattle.rl_machine.specs.Traces.{AnswerCont, Store, asked, by_kind, set, set_open}
 use Rattle.rl_machine.specs.declared.trace.Answer.{Answer}
 use Rattle.rl_machine.specs.declared.trace.AnswerKind.{AnswerKind}
 use Rattle.rl_machine.specs.declared.trace.Assignment.{Assignment}
@@ -75,13 +75,6 @@ answered e a old new q onward =
     ap (λ s. after s.events (onward s.scene s.konts a s.store new.answers)) q.same
     ∙ after_emit old.events e (onward old.scene old.konts a (set_open old.scene.world.opens a.assignments old.store) new.answers)
     ∙ sym (ap (λ rest. after old.events (asked (set_open old.scene.world.opens) e old.store rest (onward old.scene old.konts))) q.answers)
-
--- The run waits.
-pub unanswered : (e : Event) (old new : State) → IsUnasked old new → (onward : AnswerCont)
-    → after new.events waiting ≡ after old.events (asked (set_open old.scene.world.opens) e old.store old.answers onward)
-unanswered e old new q onward =
-    ap (λ s. after s.events waiting) q.same
-    ∙ sym (ap (λ answers. after old.events (asked (set_open old.scene.world.opens) e old.store answers onward)) q.answers)
 
 -- An answer that was given was asked for.
 pub in_some : (e : Event) (answer : Option (Bor Answer)) (a : Bor Answer) (old new : State) → answer ≡ Some a → WasAsked e answer old new

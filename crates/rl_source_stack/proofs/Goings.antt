@@ -1,5 +1,5 @@
 -- A run that goes on as another one does, and frames that are taken off.
-use Rattle.std.proofs.Common.{◌≡◌, Option, Some, None, Result, Ok, Err, IfOk, MatchOption, ap, subst, sym, ◌∙◌}
+use Rattle.std.proofs.Common.{◌≡◌, Result, Ok, Err, IfOk, ap, sym, ◌∙◌}
 use Rattle.rl_base.specs.declared.error.OutOfMemory.{OutOfMemory}
 use Rattle.rl_machine.specs.declared.trace.Trace.{Trace}
 use Rattle.rl_source_stack.specs.Controls.{goes, trace_of}
@@ -15,16 +15,6 @@ pub goes_as : (result : Result Control OutOfMemory) (s : State) {t u : Trace} �
     → IfOk result (λ c. trace_of c s ≡ t) → IfOk result (λ c. trace_of c s ≡ u)
 goes_as (Ok c) s same known = known ∙ same
 goes_as (Err error) s same known = known
-
--- The frame `f` was taken off the stack.
-pub taken_off : (popped : Option Frame) (f : Frame) (old new : State) → popped ≡ Some f
-    → MatchOption popped ((new ≡ old) × (old.konts ≡ outermost)) (λ g. old ≡ pushed g new) → old ≡ pushed f new
-taken_off popped f old new is known = subst (λ o. MatchOption o ((new ≡ old) × (old.konts ≡ outermost)) (λ g. old ≡ pushed g new)) is known
-
--- No frame was left.
-pub none_left : (popped : Option Frame) (old new : State) → popped ≡ None
-    → MatchOption popped ((new ≡ old) × (old.konts ≡ outermost)) (λ g. old ≡ pushed g new) → (new ≡ old) × (old.konts ≡ outermost)
-none_left popped old new is known = subst (λ o. MatchOption o ((new ≡ old) × (old.konts ≡ outermost)) (λ g. old ≡ pushed g new)) is known
 
 -- A control `c` that is met with the frame `f` goes on from the state that has it.
 pub popped_as : (c : Control) (f : Frame) (old new : State) → old ≡ pushed f new → (result : Result Control OutOfMemory) (s : State)

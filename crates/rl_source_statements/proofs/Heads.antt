@@ -1,8 +1,7 @@
 -- Heads of loops.
 use Rattle.std.proofs.Common.{◌≡◌, Bool, true, false, if◌then◌else◌, List, ℕ, refl, ap, sym, ◌∙◌}
-use Rattle.rl_ast.specs.StatementPartViews.{seen_variable_declaration, seen_variable_declarator}
+use Rattle.rl_ast.specs.StatementPartViews.{seen_variable_declaration}
 use Rattle.rl_ast.specs.declared.statement_part.VariableDeclaration.{VariableDeclaration}
-use Rattle.rl_ast.specs.declared.statement_part.VariableDeclarator.{VariableDeclarator}
 use Rattle.rl_base.specs.VariableKinds.{variable_text}
 use Rattle.rl_grammar.specs.Grammar.{fits}
 use Rattle.rl_grammar.specs.declared.kind.Field.TheVariants as field
@@ -14,7 +13,7 @@ use Rattle.rl_model.specs.Patterns.{bind}
 use Rattle.rl_model.specs.Scene.{Scene}
 use Rattle.rl_model.specs.Statements.{has_meaning, is_using, take_head}
 use Rattle.rl_source_stack.specs.Parts.{among}
-use Rattle.rl_syntax.specs.Syntax.{Syntax, Node, Said, Listed, Absent, Pieces, End, Then, syntax}
+use Rattle.rl_syntax.specs.Syntax.{Syntax, Node, Said, Listed, Absent, Pieces, End, Then}
 use Rattle.rl_syntax.specs.declared.numbered.At.{At}
 use Rattle.rl_syntax.specs.declared.word.Word.TheVariants as word
 
@@ -33,10 +32,6 @@ head_by : (scene : Scene) (v : Value) (d : VariableDeclaration) (declarators : P
     → take_head scene t v ≡ take_head scene (heading d.at (variable_text d.kind) declarators) v
 head_by scene v d declarators t is split =
     ap (λ t. take_head scene t v) (sym is) ∙ ap (λ ps. take_head scene (heading d.at (variable_text d.kind) ps) v) split
-
-pub head_empty : (d : VariableDeclaration) (t : Syntax) → seen_variable_declaration d ≡ t → among d.declarators.trees.now ≡ End
-    → (scene : Scene) (v : Value) → take_head scene t v ≡ no_meaning
-head_empty d t is split scene v = head_by scene v d End t is split
 
 more : (scene : Scene) (v : Value) (at : At) (kind : List ℕ) (x y : Syntax) (rest : Pieces)
     → take_head scene (heading at kind (Then x (Then y rest))) v ≡ no_meaning
@@ -60,19 +55,6 @@ pub head_using : (d : VariableDeclaration) (t x : Syntax) (left : Pieces) → se
     → (scene : Scene) (v : Value) → take_head scene t v ≡ no_meaning
 head_using d t x left is split ends used scene v =
     head_by scene v d (Then x End) t is (split ∙ ap (Then x) ends) ∙ using scene v d.at (variable_text d.kind) x used
-
-pub head_one : (d : VariableDeclaration) (e : VariableDeclarator) (t x : Syntax) (left : Pieces) → seen_variable_declaration d ≡ t
-    → among d.declarators.trees.now ≡ Then x left → left ≡ End → is_using (variable_text d.kind) ≡ false
-    → seen_variable_declarator e ≡ x
-    → (scene : Scene) (v : Value) → take_head scene t v ≡ bind scene true (syntax e.pattern.tree.now) v
-head_one d e t x left is split ends unused seen scene v =
-    head_by scene v d (Then x End) t is (split ∙ ap (Then x) ends)
-    ∙ ap (λ x. take_head scene (heading d.at (variable_text d.kind) (Then x End)) v) (sym seen)
-    ∙ ap (λ (b : Bool). if b then no_meaning else bind scene true (syntax e.pattern.tree.now) v) unused
-
--- The meaning of a `for` loop, by its first part and its test.
-pub meaning_absent : (init : Syntax) → has_meaning init Absent ≡ false
-meaning_absent init = refl
 
 pub meaning_bare : (condition : Syntax) → fits (field.One kind.Expression) condition ≡ true → has_meaning Absent condition ≡ true
 meaning_bare Absent h = absurd (cc)

@@ -20,7 +20,7 @@ use Rattle.rl_hir.specs.declared.terminal.ReturnVariant.TheVariants as returns
 use Rattle.rl_machine.specs.declared.trace.Trace.{Trace}
 use Rattle.rl_machine.specs.declared.trace.Value.{Value}
 use Rattle.rl_machine.specs.declared.trace.Value.TheVariants as value
-use Rattle.rl_model.specs.Actions.{Label, ◌>>=◌, break_to, continue_to, no_meaning, return_with}
+use Rattle.rl_model.specs.Actions.{Label, ◌>>=◌, break_to, continue_to, return_with}
 use Rattle.rl_model.specs.Expressions.{eval, or_default}
 use Rattle.rl_model.specs.Functions.{run_body, take_argument}
 use Rattle.rl_model.specs.Patterns.{bind}
@@ -70,13 +70,6 @@ pub exec_try : (scene : Scene) (own : Label) (at : At) (block handler finalizer 
     → exec scene own (Node at word.Try (Then block (Then handler (Then finalizer End)))) ≡ trying scene block handler finalizer
 exec_try scene own at block (Node there word.Catch (Then param (Then body End))) finalizer = refl
 exec_try scene own at block _ finalizer = refl
-
--- A `try` with `finally` has no meaning.
-pub trying_finally : (scene : Scene) (block handler finalizer : Syntax) → fits (field.One kind.BlockStatement) finalizer ≡ true
-    → trying scene block handler finalizer ≡ no_meaning
-trying_finally scene block handler Absent h = absurd (cc)
-trying_finally scene block (Node there word.Catch (Then param (Then body End))) _ h = refl
-trying_finally scene block _ _ h = refl
 
 -- Jumps.
 pub exec_break : (scene : Scene) (own : Label) (at : At) (label : Option (Bor (List ℕ)))

@@ -44,8 +44,7 @@ use Rattle.rl_unit.proofs.Answering.{within_bytes}
 use Rattle.rl_unit.proofs.Marked.{body_there, has_body, is_covered, marked_is}
 use Rattle.rl_unit.proofs.Room.{alone_bounded, few_nodes, unit_nodes}
 use Rattle.rl_unit.proofs.Small.{unit_small}
-use Rattle.rl_unit.specs.Functions.{IsFunctionError, IsFunctionErrorOf, IsRead, IsResultOf, IsUnitResult, MayLower}
-use Rattle.rl_unit.specs.declared.unit.LowerError.{LowerError}
+use Rattle.rl_unit.specs.Functions.{IsRead, IsResultOf, IsUnitResult, MayLower}
 
 -- A unit within the limits has a short text.
 short_unit : (u : Syntax) → (r : IsRead u) → width u < 2 ^ 32
@@ -164,15 +163,4 @@ unit_result u f names l r rules found none same result =
         writable = whole.writable;
         spanned = whole.spanned;
       };
-    }
-
--- The cause of its error is the unit's too.
-pub unit_error : (u f : Syntax) (names : Names) (e : LowerError) → least_broken u ≡ None → first (marked_functions u) ≡ Some f
-    → first (uncovered_in f) ≡ None → names ≡ function_names u f → IsFunctionError names f e → IsFunctionErrorOf u e
-unit_error u f names e rules found none same cause =
-    let is : f ≡ marked u = marked_is u f found in
-    record {
-      rules = rules;
-      covered = ap (λ (t : Syntax). first (uncovered_in t)) (sym is) ∙ none;
-      cause = subst (λ (t : Syntax). IsFunctionError (function_names u t) t e) is (subst (λ (n : Names). IsFunctionError n f e) same cause);
     }

@@ -12,9 +12,7 @@ use Rattle.rl_syntax.specs.Words.{word_text}
 use Rattle.rl_hir.specs.Listing.{lowered, function, identifier, inner, pair}
 use Rattle.rl_hir.specs.declared.function.InnerFunction.{InnerFunction}
 use Rattle.rl_hir.specs.declared.function.Lowered.{Lowered}
-use Rattle.rl_lower.specs.Rooms.{AreSmallTrees, HasSmallSpans, HasSmallSymbol, HaveSmallSpans, IsSmallTree}
-use Rattle.rl_names.proofs.SymbolRange.{IsInRange}
-use Rattle.rl_names.specs.declared.parameters.Parameter.{Parameter}
+use Rattle.rl_lower.specs.Rooms.{AreSmallTrees, HasSmallSpans, HaveSmallSpans, IsSmallTree}
 
 some_left : (close : ℕ) (parts : Pieces) → 0 < length (spelled_on close (plain_parts parts))
 some_left close End = omega arith
@@ -81,10 +79,6 @@ all_writable tree (x ∷ items) all = (all 0 x (omega arith), all_writable tree 
 
 none_writable : (items : List InnerFunction) → items ≡ [] → AreWritable (parts_of (map inner items))
 none_writable items none = subst (λ (l : List InnerFunction). AreWritable (parts_of (map inner l))) (sym none) tt
-
--- A symbol's id is a number of the notation.
-pub small_symbol : (p : Parameter) → IsInRange p.symbol → HasSmallSymbol p
-small_symbol p below = omega (arith, below)
 
 -- A result whose parts are writable.
 pub result_writable : (l : Lowered) → IsWritable (function l.function) → l.inner ≡ [] → All (λ i. IsWritable (identifier i)) l.identifiers

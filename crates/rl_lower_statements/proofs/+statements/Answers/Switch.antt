@@ -14,7 +14,7 @@ use Rattle.rl_frames.specs.SwitchParts.{SwitchParts, switch_entered, switch_left
 use Rattle.rl_lower_statements.proofs.SwitchDerivations.{case_framed, case_scope, behind_arounds, behind_label, behind_named, behind_room}
 use Rattle.rl_lower_statements.proofs.SwitchDerivations.{cases_begun, cases_done, cases_may, cases_next, nodes_split, cases_named}
 use Rattle.rl_lower_statements.proofs.SwitchDerivations.{cases_room, switch_told}
-use Rattle.rl_frames.proofs.SwitchNotes.{switch_begun_size}
+use Rattle.rl_frames.proofs.FrameSizes.{switch_begun_size}
 use Rattle.rl_lower_statements.specs.Cases.{FramesBehind, joined}
 use Rattle.rl_lower_statements.proofs.+statements.Goals as goal
 
