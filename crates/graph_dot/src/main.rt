@@ -4,10 +4,6 @@
 mod draw;
 mod label;
 mod run;
-#[cfg(test)]
-mod terminals;
-#[cfg(test)]
-mod tests;
 
 use rl_base::streams::{StdIn, StdOut};
 use rl_unit::run::arguments;
