@@ -2,9 +2,8 @@
 """Prints the libraries of this repository that a crate lists in crates.txt and does not name in its files, and ends with status 1 where
 there is one.
 
-`rt ci` sums the files of a library before and after its proof, and for each library that it lists it does so again, on every path
-down to the bottom. With all libraries below listed for each crate there were 900,000 such sums, three hours of one processor; with
-those alone that a crate names there are 360,000.
+`rt ci` plans by going over every path of crates.txt from a crate down to the bottom: 2.3 million with the libraries that each crate
+names, some two minutes of one processor. A library more in a line makes all paths through that line more.
 """
 import pathlib
 import re
