@@ -1,7 +1,7 @@
 #!/usr/bin/env bash
 # Runs `rt ci` at the top with the arguments given, passes on what it prints, and prints after it the wall and processor minutes of
 # each crate (its check, its tests, its edits that must be refused), the gigabytes of its largest process, and the minutes of the
-# whole. Ends with its status.
+# whole. Ends with its status. RT_JOBS is passed on: without it `rt ci` plans otherwise than in .ci/run, which sets it.
 cd "$(dirname "$0")/.." || exit 2
 exec python3 - "$@" <<'GATE'
 import collections, os, re, resource, subprocess, sys, threading, time
@@ -44,7 +44,8 @@ def top_check(pid, found, root):
     """The check of which a process below `root` is a part: the uppermost one above it, or itself."""
     top = None
     while pid in found and pid != root:
-        top = (pid, label(pid)) if label(pid) else top
+        named = label(pid)
+        top = (pid, named) if named else top
         pid = found[pid][0]
     return top if pid == root else None
 

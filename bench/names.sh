@@ -3,12 +3,7 @@
 # symbol, of one name or of distinct names, the nanoseconds in which a builder names all symbols, a symbol and in all, and the first
 # over the second. Times are the shortest of all.
 set -eu
-program=${1:+$(realpath "$1")}
-cd "$(dirname "$0")/.."
-if [ -z "$program" ]; then
-    (cd crates/timer && rt run < stdin > /dev/null)
-    program=$PWD/crates/timer/out/timer
-fi
+. "$(dirname "$0")/timer.sh"
 python3 - "$program" <<'TABLE'
 import subprocess, sys
 program = sys.argv[1]

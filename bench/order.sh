@@ -4,12 +4,7 @@
 # those of the whole sequence, these over those of the smallest graph of the shape in the table, and the steps of the ordering a block.
 # Times are the shortest of all calls. The program runs with a stack of 8 MiB.
 set -eu
-program=${1:+$(realpath "$1")}
-cd "$(dirname "$0")/.."
-if [ -z "$program" ]; then
-    (cd crates/timer && rt run < stdin > /dev/null)
-    program=$PWD/crates/timer/out/timer
-fi
+. "$(dirname "$0")/timer.sh"
 ulimit -s 8192
 python3 - "$program" <<'TABLE'
 import subprocess, sys

@@ -4,12 +4,7 @@
 # the smallest unit of the shape, the third over the second, and the third over that of the smallest unit. Times are the shortest of
 # all calls.
 set -eu
-program=${1:+$(realpath "$1")}
-cd "$(dirname "$0")/.."
-if [ -z "$program" ]; then
-    (cd crates/timer && rt run < stdin > /dev/null)
-    program=$PWD/crates/timer/out/timer
-fi
+. "$(dirname "$0")/timer.sh"
 folder=$(mktemp -d)
 trap 'rm -rf "$folder"' EXIT
 python3 bench/scope_units.py "$folder"

@@ -6,12 +6,7 @@
 # of the graph also what it takes to make that. Much of the growth of long runs is fresh memory: their events lie side by side to the end.
 # Builds the program timer, or takes the one at the path given.
 set -eu
-program=${1:+$(realpath "$1")}
-cd "$(dirname "$0")/.."
-if [ -z "$program" ]; then
-    (cd crates/timer && rt run < stdin > /dev/null)
-    program=$PWD/crates/timer/out/timer
-fi
+. "$(dirname "$0")/timer.sh"
 python3 - "$program" <<'TABLE'
 import subprocess, sys
 STEPS = {"graph": 5, "source": 15}

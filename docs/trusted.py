@@ -60,9 +60,18 @@ def definitions(text):
     return sum(1 for line in text.splitlines() if line.strip() and not re.match(r"\s*(--|(pub )?use )", line))
 
 
+def own_types():
+    """The types that a statement names and that stand beside it, as an error."""
+    for file, functions in STATEMENTS.items():
+        text = (TOP / file).read_text()
+        words = {word for function in functions for word in re.findall(r"\w+", contract(text, function))}
+        for name in words & set(re.findall(r"^pub (?:struct|enum) (\w+)", text, re.M)):
+            yield file.split("/")[1], pathlib.Path(file).stem, name
+
+
 def types(files):
-    """The types of src/ that the files name, each as its crate, its module and its name."""
-    found = set()
+    """The types of src/ that the files and the statements name, each as its crate, its module and its name."""
+    found = set(own_types())
     for file in files:
         for crate, path, _ in used(spec(*file)):
             declared = re.match(r"declared\.((?:[a-z]\w*\.)+)(?!The)([A-Z]\w*)", path)

@@ -15,6 +15,8 @@ import shutil
 import subprocess
 import sys
 
+from crates import listed
+
 
 def crates_below(crate, uses):
     """The crates of this repository that the crate stands on, each behind those that it stands on itself."""
@@ -27,8 +29,7 @@ def crates_below(crate, uses):
 
 def arguments(crate, functions, root, kit, kept, built):
     """The compiler's arguments, with each crate below as source, or as it stands in the folder `built`."""
-    lines = [line.split("#")[0].strip() for line in (root / "crates.txt").read_text().splitlines()]
-    uses = {line.split(":")[0].strip(): line.split(":")[1].split() for line in lines if line}
+    uses = listed()
     below = crates_below(crate, uses)
     outside = {"core", "std", *(name for it in [crate, *below] for name in uses[it] if name not in uses)}
     source = "src/lib.rt" if (root / "crates" / crate / "src" / "lib.rt").exists() else "src/main.rt"
@@ -54,11 +55,13 @@ def arguments(crate, functions, root, kit, kept, built):
 def main():
     crate, *functions = sys.argv[1:] or sys.exit(__doc__)
     root = pathlib.Path(__file__).resolve().parent.parent
-    rattle = pathlib.Path(shutil.which("rattle")).resolve()
-    kept = os.environ.get("KEPT", str(root / "crates" / crate / "out" / "only"))
-    pathlib.Path(kept).mkdir(parents=True, exist_ok=True)
+    if not (root / "crates" / crate / "src").is_dir():
+        sys.exit(f"there is no crate {crate}")
+    rattle = pathlib.Path(shutil.which("rattle") or sys.exit("there is no rattle on PATH")).resolve()
+    kept = pathlib.Path(os.environ.get("KEPT") or root / "crates" / crate / "out" / "only").resolve()
+    kept.mkdir(parents=True, exist_ok=True)
     built = pathlib.Path(os.environ["BUILT"]).resolve() if os.environ.get("BUILT") else None
-    words = arguments(crate, functions, root, rattle.parent.parent, kept, built)
+    words = arguments(crate, functions, root, rattle.parent.parent, str(kept), built)
     sys.exit(subprocess.run([rattle, *words], cwd=root / "crates" / crate).returncode)
 
 

@@ -92,7 +92,9 @@ def main():
     if len(sys.argv) < 5:
         sys.exit(__doc__)
     folder, crate, cycle, *named = sys.argv[1:]
-    root, folder = pathlib.Path(__file__).resolve().parent.parent, pathlib.Path(folder)
+    root, folder = pathlib.Path(__file__).resolve().parent.parent, pathlib.Path(folder).resolve()
+    if root.is_relative_to(folder) or folder.is_relative_to(root / "crates") or folder.is_relative_to(root / "tools"):
+        sys.exit("FOLDER is this checkout, or stands in it: its crates/ would be lost")
     for name in ("crates", "tools"):
         shutil.rmtree(folder / name, ignore_errors=True)
         shutil.copytree(root / name, folder / name, ignore=shutil.ignore_patterns("out"))

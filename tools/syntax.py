@@ -3,6 +3,7 @@
 definitions, what the lowering covers, and the tables in docs/NOTATION.md and README.md. `python3 tools/syntax.py` writes them into the
 repository; run `rt fmt` behind it.
 `python3 tools/syntax.py --check` says whether they are up to date, spaces and line breaks aside."""
+import functools
 import itertools
 import pathlib
 import re
@@ -19,8 +20,7 @@ BY_HAND = ("Unit", "FunctionDeclaration", "FunctionExpression")  # sorts whose v
 SIZE = 512  # entries of the table of words
 NOTE = "Written by tools/syntax.py from tools/grammar.txt."
 
-# The leaves: of each kind the form of its plain tree, its type in a view, the function that reads it, its plain tree in a
-# definition, and what it is.
+# Leaves whose texts are those of a type with listed values: the definition of the text, and what it is.
 CLOSED = {
     "VariableKind": ("variable_text", "The kind of a variable declaration"),
     "TypeKind": ("type_text", "The kind of a type"),
@@ -30,6 +30,7 @@ CLOSED = {
     "LogicalOperator": ("logical_text", "A logical operator"),
     "AssignmentOperator": ("assignment_text", "An assignment operator"),
 }
+# All leaves: the type in a view, the function that reads it, its plain tree in a definition, and what it is.
 LEAVES = {
     "Text": ("&'b Text", "text_of", "Said {}.now", "A text"),
     "Flag": ("bool", "flag_of", "Flag {}", "A flag"),
@@ -79,13 +80,25 @@ def comment(text, spelled="", indent=""):
 # Words.
 
 
+def are_apart(keys, last, middle, length):
+    """True if no two keys have one index by these weights."""
+    seen = set()
+    for a, b, c, d in keys:
+        index = (a + last * b + middle * c + length * d) % SIZE
+        if index in seen:
+            return False
+        seen.add(index)
+    return True
+
+
+@functools.cache
 def hash_weights():
     """Weights of the last byte, the middle byte and the length, with which no two words have one index."""
     keys = [(ord(w[0]), ord(w[-1]), ord(w[len(w) // 2]), len(w) % 32) for w in WORDS]
     for total in range(3, 400):
         for last, middle in itertools.product(range(1, min(total - 1, 128)), repeat=2):
             length = total - last - middle
-            if 0 < length < 64 and len({(a + last * b + middle * c + length * d) % SIZE for a, b, c, d in keys}) == len(keys):
+            if 0 < length < 64 and are_apart(keys, last, middle, length):
                 return last, middle, length
     raise SystemExit("no weights tell all words apart")
 
@@ -410,7 +423,9 @@ def page(path, tables):
     """The page with each table between the line of its name and the next line `<!-- end -->`."""
     text = (ROOT / path).read_text()
     for name, table in tables.items():
-        text = re.sub(rf"(?s)(<!-- {name} -->\n).*?(<!-- end -->)", lambda m: m[1] + table + m[2], text)
+        text, count = re.subn(rf"(?s)(<!-- {name} -->\n).*?(<!-- end -->)", lambda m: m[1] + table + m[2], text)
+        if count != 1:
+            raise SystemExit(f"{path}: {count} parts between <!-- {name} --> and <!-- end -->, and not one")
     return text
 
 
@@ -435,6 +450,8 @@ def bare(text):
 
 
 if __name__ == "__main__":
+    if sys.argv[1:] not in ([], ["--check"]):
+        sys.exit(__doc__)
     written = files()
     if sys.argv[1:] == ["--check"]:
         stale = [path for path, text in written.items() if not (ROOT / path).exists() or bare((ROOT / path).read_text()) != bare(text)]
