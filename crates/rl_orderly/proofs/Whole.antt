@@ -1,5 +1,5 @@
 -- Orderly functions, from their nodes and patterns, and by the tables of a unit.
-use Rattle.std.proofs.Common.{◌≡◌, ℕ, Bool, true, false, ◌&&◌, is_some, List, [], ◌∷◌, ◌++◌, Option, Some, None, option_map}
+use Rattle.std.proofs.Common.{◌≡◌, ℕ, Bool, false, ◌&&◌, List, [], ◌∷◌, ◌++◌, Option, Some, None, option_map}
 use Rattle.std.proofs.Common.{ap, sym, refl, ◌∙◌}
 use Rattle.rl_code.proofs.FunctionParts.{parts_are, no_parts}
 use Rattle.rl_code.specs.Parts.{parts_of_function}
@@ -98,21 +98,12 @@ mapped_value : (test : Syntax → Bool) (o : Option Syntax) (b : Bool) → Some 
 mapped_value test None b is = absurd (cc)
 mapped_value test (Some x) b is = ap (of_item false (λ b. b)) is
 
-mapped_some : (test : Syntax → Bool) (o : Option Syntax) (b : Bool) → Some b ≡ option_map test o → is_some o ≡ true
-mapped_some test None b is = absurd (cc)
-mapped_some test (Some x) b is = refl
-
-mapped_none : (test : Syntax → Bool) (o : Option Syntax) → None ≡ option_map test o → o ≡ None
+mapped_none : (test : Syntax → Bool) (o : Option Syntax) → None ≡ option_map test o → false ≡ of_item false test o
 mapped_none test None is = refl
 mapped_none test (Some x) is = absurd (cc)
 
 pub orderly_value : (u : Syntax) (function : Option ℕ) (b : Bool) → Some b ≡ orderly_at u function → b ≡ is_orderly u function
 orderly_value u function b is = mapped_value _ (function_at u function) b is
 
-pub orderly_found : (u : Syntax) (function : Option ℕ) (b : Bool) → Some b ≡ orderly_at u function → is_some (function_at u function) ≡ true
-orderly_found u function b is = mapped_some _ (function_at u function) b is
-
-pub orderly_none : (u : Syntax) (function : Option ℕ) → None ≡ orderly_at u function → function_at u function ≡ None
+pub orderly_none : (u : Syntax) (function : Option ℕ) → None ≡ orderly_at u function → false ≡ is_orderly u function
 orderly_none u function is = mapped_none _ (function_at u function) is
-
-pub ruleset at_node = (orderly_value, orderly_found, orderly_none)

@@ -1,6 +1,6 @@
 //! Orderly functions of a unit.
 
-ghost use Rattle.std.specs.Prelude.{◌≡◌, ◌&&◌, ◌∷◌, ℕ, Bool, true, false, None, is_some, map, option_map, IfErr, IfOk};
+ghost use Rattle.std.specs.Prelude.{◌≡◌, ◌&&◌, ◌∷◌, ℕ, Bool, true, false, map, option_map, IfOk};
 ghost use Rattle.std.specs.List.{list_all};
 ghost use Rattle.rl_model.specs.Code as code;
 ghost use Rattle.rl_model.specs.Facts.{is_shadowed};
@@ -16,7 +16,6 @@ ghost use Rattle.rl_orderly.specs.Patterns.{are_orderly};
 ghost use Rattle.rl_shadowed.specs.Shadowed.{is_shadowed_by};
 ghost use Rattle.rl_orderly.specs.Whole as spec;
 ghost use Rattle.rl_syntax.specs.Syntax.{Syntax, syntax};
-ghost use Rattle.rl_trace.specs.declared.error.RunError.TheVariants as errors;
 ghost use Rattle.rl_worlds.specs.Units.{IsSemanticOf};
 
 use crate::node::is_orderly_node;
@@ -36,7 +35,6 @@ use rl_resolver::resolver::ScopeResolver;
 use rl_semantic::semantic::Semantic;
 use rl_shadowed::shadowed::are_orderly_names;
 use rl_syntax::numbered::{At, Numbered};
-use rl_trace::error::RunError;
 use rl_worlds::function_at::function_at;
 use rl_worlds::world::{assigned_by, assigned_by_others};
 use std::alloc::Global;
@@ -184,7 +182,7 @@ fn is_orderly_in(
     Ok(result)
 }
 
-/// As `is_orderly`; `None` in place of `NoFunction`.
+/// As `is_orderly`; `None` where the node is that of no inner function that is lowered.
 fn orderly_at(
     alloc: Global,
     unit: &Unit,
@@ -204,26 +202,21 @@ fn orderly_at(
 }
 
 /// True of an orderly function of a unit that keeps the binding rules: the inner function with this node, or the marked function if
-/// there is no node. `semantic` are the semantic tables of the unit, as `Semantic::of` makes them. On `NoFunction`, the node is that of
-/// no inner function that is lowered; on `OutOfMemory`, an allocation failed, or there are more scopes, symbols or references than ids,
-/// which no unit has. It takes time that is linear in the nodes of the unit, up to the logarithms of look-ups, and in its symbols for
-/// each function declaration in the function.
-#[tactic(auto, using(crate::proofs::Whole::at_node))]
+/// there is no node. False where the node is that of no inner function that is lowered. `semantic` are the semantic tables of the unit,
+/// as `Semantic::of` makes them. On `OutOfMemory`, an allocation failed, or there are more scopes, symbols or references than ids, which
+/// no unit has. It takes time that is linear in the nodes of the unit, up to the logarithms of look-ups, and in its symbols for each
+/// function declaration in the function.
 pub fn is_orderly(
     alloc: Global,
     unit: &Unit,
     semantic: &Semantic<'_>,
     function: Option<NodeId>,
-) -> Result<bool, RunError>
-    ensures orderly { IfOk result (λ b. IsSemanticOf semantic.now (syntax unit.now.tree) → b ≡ source.is_orderly (syntax unit.now.tree) (option_map (λ n. n.0) function)) }
-    ensures found { IfOk result (λ b. IsSemanticOf semantic.now (syntax unit.now.tree) → is_some (source.function_at (syntax unit.now.tree) (option_map (λ n. n.0) function)) ≡ true) }
-    ensures none { IfErr result (λ e. IsSemanticOf semantic.now (syntax unit.now.tree) → e ≡ errors.NoFunction → source.function_at (syntax unit.now.tree) (option_map (λ n. n.0) function) ≡ None) }
+) -> Result<bool, OutOfMemory>
+    ensures { IfOk result (λ b. IsSemanticOf semantic.now (syntax unit.now.tree) → b ≡ source.is_orderly (syntax unit.now.tree) (option_map (λ n. n.0) function)) }
 {
-    match orderly_at(alloc, unit, semantic, function) {
-        Ok(found) => match found {
-            Some(orderly) => Ok(orderly),
-            None => Err(RunError::NoFunction),
-        },
-        Err(OutOfMemory) => Err(RunError::OutOfMemory),
+    let found = orderly_at(alloc, unit, semantic, function)?;
+    match found {
+        Some(orderly) => Ok(orderly),
+        None => Ok(false),
     }
 }

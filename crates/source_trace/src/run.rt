@@ -1,13 +1,11 @@
 //! The command `source_trace`: runs a function of any well-formed unit by its source, whatever the lowering covers.
 
-ghost use Rattle.std.specs.Prelude.{◌≡◌, ◌≢◌, ◌++◌, ◌⊎◌, IfErr, IfOk, IfNone, IfSome, IsErrOf, MatchResult, None, OnOk, map, string_bytes};
+ghost use Rattle.std.specs.Prelude.{◌≡◌, ◌≢◌, ◌++◌, ◌⊎◌, IfErr, IfOk, IfNone, IfSome, IsErrOf, MatchResult, OnOk, map, string_bytes};
 ghost use Rattle.std.specs.Option.{option_map};
 ghost use Rattle.std.specs.Io.KnownBytes.{Keeps};
 ghost use Rattle.rl_base.specs.declared.ids.NodeId.{NodeId as Id};
 ghost use Rattle.rl_base.specs.Faults.{Rose};
 ghost use Rattle.rl_unit.specs.Known.{ExplainsBy, IsCompleteBy, RefusesUnit, WritesBy};
-ghost use Rattle.rl_model.specs.Source as spec;
-ghost use Rattle.rl_model.specs.Source.{function_at};
 ghost use Rattle.rl_syntax.specs.Syntax.{syntax};
 ghost use Rattle.rl_trace_text.specs.declared.words.Arguments.{Arguments as Args};
 ghost use Rattle.rl_unit.specs.Answers.{HasRead, ReadsWhole, RefusesKnown};
@@ -73,24 +71,6 @@ fn node_of(function: Option<u32>) -> Option<NodeId>
     }
 }
 
-/// True of an orderly function. On `OutOfMemory`, an allocation failed.
-fn is_function_orderly(
-    alloc: Global,
-    unit: &Unit,
-    semantic: &Semantic<'_>,
-    function: Option<NodeId>,
-) -> Result<bool, OutOfMemory>
-    requires tables { IsSemanticOf semantic.now (syntax unit.now.tree) }
-    requires there { function_at (syntax unit.now.tree) (option_map (λ (n : Id). n.0) function) ≢ None }
-    ensures { IfOk result (λ b. b ≡ spec.is_orderly (syntax unit.now.tree) (option_map (λ (n : Id). n.0) function)) }
-{
-    match is_orderly(alloc, unit, semantic, function) {
-        Ok(orderly) => Ok(orderly),
-        Err(RunError::NoFunction) => unreachable!(),
-        Err(RunError::OutOfMemory) => Err(OutOfMemory),
-    }
-}
-
 /// The lines of a function that was run. On `OutOfMemory`, an allocation failed.
 fn lines(
     alloc: Global,
@@ -100,12 +80,11 @@ fn lines(
     trace: &Trace,
 ) -> Result<Vec<u8>, OutOfMemory>
     requires tables { IsSemanticOf semantic.now (syntax unit.now.tree) }
-    requires there { function_at (syntax unit.now.tree) (option_map (λ (n : Id). n.0) function) ≢ None }
     ensures { IfOk result (λ text. text.items
         ≡ traced.lines (syntax unit.now.tree) (option_map (λ (n : Id). n.0) function) trace.now) }
 {
     let mut text = trace_line(alloc, trace)?;
-    let orderly = is_function_orderly(alloc, unit, semantic, function)?;
+    let orderly = is_orderly(alloc, unit, semantic, function)?;
     push_flag(b"orderly", orderly, &mut text)?;
     let supported = is_supported(alloc, unit, semantic)?;
     push_flag(b"supported", supported, &mut text)?;
