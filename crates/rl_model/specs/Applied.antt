@@ -197,6 +197,10 @@ abbrev pub is_var : Syntax → Bool
 is_var (Node at word.Var parts) = true
 is_var _ = false
 
+abbrev pub is_this : Syntax → Bool
+is_this (Node at word.This parts) = true
+is_this _ = false
+
 -- The tag of an `fbt` or `fbs` element whose name the marked function binds (row S5).
 abbrev pub is_bound_tag : Facts → (tag : Syntax) → Bool
 is_bound_tag f (Node at word.Tag (Then (Said name) End)) = is_fbt name && f.is_bound name
@@ -286,13 +290,14 @@ of_node f a (Node at word.Continue (Then Absent End)) = when (not a.continues) (
 of_node f a (Node at word.Continue (Then (Said label) End)) = when (not (is_true (label_found a.labels label))) (S 7)
 of_node f a _ = []
 
--- F9 of a key, and F41 of an inner function in a dead part.
-abbrev pub of_place : Facts → Above → At → Word → List Which
-of_place f a at w = when (a.key && not (is_known_key w)) (F 9) ++ when (is_function w && f.is_dead at.id.0) (F 41)
+-- F9 of a key, and F41 of an inner function in a dead part; a function declaration without a body is none.
+abbrev pub of_place : Facts → Above → At → Word → Pieces → List Which
+of_place f a at w parts =
+    when (a.key && not (is_known_key w)) (F 9) ++ when (is_function w && not (is_no_code w parts) && f.is_dead at.id.0) (F 41)
 
 -- The rows of a node in a function declaration without a body: of its names (rows S1 and F40), and of parameters.
 abbrev pub of_bodiless : Facts → Syntax → List Which
-of_bodiless f (Node at word.Bind (Then (Said name) parts)) = if f.is_variable at.id.0 then of_local name else []
+of_bodiless f (Node at word.Bind (Then (Said name) parts)) = of_local name
 of_bodiless f (Node at word.Id (Then (Said name) End)) = of_used name (f.names.meaning at.reference.0 name)
 of_bodiless f (Node at word.Params parts) = when (has_this_among parts) (S 2)
 of_bodiless f _ = []
@@ -325,7 +330,7 @@ abbrev mutual
   -- told apart.
   pub rows_in : Facts → Above → Syntax → List Which
   rows_in f a (Node at w parts) =
-      of_node f a (Node at w parts) ++ of_place f a at w
+      of_node f a (Node at w parts) ++ of_place f a at w parts
       ++ (if is_no_code w parts then rows_of_no_code f w parts else rows_below f a w parts)
   rows_in f a (Listed parts) = rows_among f a parts
   rows_in f a _ = []
@@ -364,7 +369,7 @@ abbrev mutual
   rows_below f a word.Case (Then condition (Then statements End)) = rows_in f (moving a) condition ++ rows_in f (part a) statements
   rows_below f a word.Opening (Then tag (Then attributes End)) =
       rows_in f (record (part a) { tag = true }) tag ++ rows_in f (part a) attributes
-  rows_below f a word.Tagmember (Then object parts) = rows_in f (record (part a) { tag = true }) object
+  rows_below f a word.Tagmember (Then object parts) = rows_in f (record (part a) { tag = is_this object }) object
   rows_below f a word.Try (Then block (Then handler (Then finalizer End))) =
       rows_in f (record (part a) { tried = true }) block ++ rows_in f (part a) handler ++ rows_in f (part a) finalizer
   rows_below f a word.While (Then piece pieces) = rows_in f (looping a) piece ++ rows_among f (looping a) pieces

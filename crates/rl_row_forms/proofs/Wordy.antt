@@ -1,7 +1,7 @@
 -- Nodes by their words, and trees by their forms.
 use Rattle.std.proofs.Common.{◌≡◌, Bool, List, map, ap, sym, refl, ◌∙◌}
-use Rattle.rl_model.specs.Applied.{deletes, is_loop, is_plain_name, is_var}
-use Rattle.rl_row_forms.specs.Wordy.{declares_variables, loops, names_plainly, node_deletes}
+use Rattle.rl_model.specs.Applied.{deletes, is_loop, is_plain_name, is_this, is_var}
+use Rattle.rl_row_forms.specs.Wordy.{declares_variables, loops, names_plainly, node_deletes, says_this}
 use Rattle.rl_syntax.specs.Syntax.{Node, Pieces, End, Then, pieces_of, syntax}
 use Rattle.rl_syntax.specs.declared.numbered.At.{At}
 use Rattle.rl_syntax.specs.declared.numbered.Numbered.{Numbered}
@@ -30,6 +30,15 @@ pub var_form : (at : At) (w : Word) (parts : List Numbered) (r : Bool) → r ≡
 var_form at w parts r e = e ∙ var_node at w (pieces_of (map syntax parts)) ∙ ap is_var (sym (syntax_node at w parts))
 
 pub ruleset var = (var_form)
+
+this_node : (at : At) (w : Word) (parts : Pieces) → says_this w ≡ is_this (Node at w parts)
+this_node at word.This parts = refl
+this_node at _ parts = refl
+
+pub this_form : (at : At) (w : Word) (parts : List Numbered) (r : Bool) → r ≡ says_this w → r ≡ is_this (syntax (numbered.Node at w parts))
+this_form at w parts r e = e ∙ this_node at w (pieces_of (map syntax parts)) ∙ ap is_this (sym (syntax_node at w parts))
+
+pub ruleset this_forms = (this_form)
 
 loop_node : (at : At) (w : Word) (parts : Pieces) → loops w ≡ is_loop (Node at w parts)
 loop_node at word.For parts = refl

@@ -72,6 +72,10 @@ resting a = record a { rest = true }
 abbrev pub tagging : Above → Above
 tagging a = record (part a) { tag = true }
 
+-- The object of the name of an element: a name is read there, and `this` is no expression.
+abbrev pub membering : (this : Bool) → Above → Above
+membering this a = record (part a) { tag = this }
+
 abbrev pub trying : Above → Above
 trying a = record (part a) { tried = true }
 

@@ -16,6 +16,10 @@ abbrev pub declares_variables : Word → Bool
 declares_variables word.Var = true
 declares_variables _ = false
 
+abbrev pub says_this : Word → Bool
+says_this word.This = true
+says_this _ = false
+
 abbrev pub loops : Word → Bool
 loops word.For = true
 loops word.While = true

@@ -164,6 +164,16 @@ pub fn tagging(above: Above) -> Above
     }
 }
 
+/// The summary for the object of the name of an element; `this` tells if the object is `this`.
+pub fn membering(this: bool, above: Above) -> Above
+    ensures { result ≡ spec.membering this above }
+{
+    Above {
+        tag: this,
+        ..part(above)
+    }
+}
+
 /// The summary for the block of a `try`.
 pub fn trying(above: Above) -> Above
     ensures { result ≡ spec.trying above }

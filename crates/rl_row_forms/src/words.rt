@@ -60,6 +60,31 @@ pub fn is_var(tree: &Numbered) -> bool
     }
 }
 
+/// True of the word of `this`.
+fn says_this(word: Word) -> bool
+    ensures { result ≡ spec.says_this word }
+{
+    match word {
+        Word::This => true,
+        _ => false,
+    }
+}
+
+/// True of `this`.
+#[tactic(auto, using(crate::proofs::Wordy::this_forms, rl_syntax::proofs::Layers::by_layer))]
+pub fn is_this(tree: &Numbered) -> bool
+    ensures { result ≡ model.is_this (syntax tree.now) }
+{
+    match tree {
+        Numbered::Node(_, word, _) => says_this(*word),
+        Numbered::List(_) => false,
+        Numbered::Text(_) => false,
+        Numbered::Number(_) => false,
+        Numbered::Flag(_) => false,
+        Numbered::Absent => false,
+    }
+}
+
 /// True of the word of a loop.
 fn loops(word: Word) -> bool
     ensures { result ≡ spec.loops word }

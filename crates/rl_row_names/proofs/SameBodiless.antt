@@ -18,17 +18,13 @@ use Rattle.rl_syntax.specs.declared.word.Word.TheVariants as word
 local_same : (name : List ℕ) → clear_local name ≡ is_none (of_local name)
 local_same name = two_whens (is_reserved name) (bytes_eq name (codes "fbt")) (S 1) (F 40)
 
-variable_same : (v : Bool) (name : List ℕ) → (if v then clear_local name else true) ≡ is_none (if v then of_local name else [])
-variable_same true name = local_same name
-variable_same false name = refl
-
 used_same : (name : List ℕ) (m : Meaning) → clear_used name m ≡ is_none (of_used name m)
 used_same name (Local symbol) = local_same name
 used_same name (Outer b) = refl
 
 declared_same : (f : Facts) (at : At) (w : Word) (parts : Pieces)
     → clear_declared f at w parts ≡ is_none (of_bodiless f (Node at w parts))
-declared_same f at word.Bind (Then (Said name) parts) = variable_same (f.is_variable at.id.0) name
+declared_same f at word.Bind (Then (Said name) parts) = local_same name
 declared_same f at word.Id (Then (Said name) End) = used_same name (f.names.meaning at.reference.0 name)
 declared_same f at word.Params parts = one_when (has_this_among parts) (S 2)
 declared_same f at w parts = refl

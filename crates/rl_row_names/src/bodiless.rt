@@ -5,9 +5,9 @@ ghost use Rattle.rl_row_names.specs.Bodiless as spec;
 ghost use Rattle.rl_syntax.specs.Syntax.{pieces_of, syntax};
 
 use crate::facts::RowFacts;
-use crate::names::{used_is_clear, variable_is_clear};
+use crate::names::{local_is_clear, used_is_clear};
 use crate::parameters::has_this_among;
-use rl_base::ids::{NodeId, ReferenceId};
+use rl_base::ids::ReferenceId;
 use rl_code::parts::said_only;
 use rl_row_forms::forms::first_said;
 use rl_row_forms::words::{is_class, is_fundecl};
@@ -16,11 +16,11 @@ use rl_syntax::word::Word;
 
 /// True if no row applies to a `bind` node.
 #[tactic(auto, using(rl_row_forms::proofs::Shaped::by_item))]
-fn declared_name_is_clear<F: RowFacts>(facts: &F, bind: NodeId, parts: &[Numbered]) -> bool
-    ensures { result ≡ spec.clear_declared_name (F.facts facts.now) bind.0 (pieces_of (map syntax parts.now)) }
+fn declared_name_is_clear(parts: &[Numbered]) -> bool
+    ensures { result ≡ spec.clear_declared_name (pieces_of (map syntax parts.now)) }
 {
     match first_said(parts) {
-        Some(name) => variable_is_clear(facts, bind, name),
+        Some(name) => local_is_clear(name),
         None => true,
     }
 }
@@ -41,7 +41,7 @@ fn declared_is_clear<F: RowFacts>(facts: &F, at: At, word: Word, parts: &[Number
     ensures { result ≡ spec.clear_declared (F.facts facts.now) at word (pieces_of (map syntax parts.now)) }
 {
     match word {
-        Word::Bind => declared_name_is_clear(facts, at.id, parts),
+        Word::Bind => declared_name_is_clear(parts),
         Word::Id => used_name_is_clear(facts, at.reference, parts),
         Word::Params => !has_this_among(parts),
         _ => true,

@@ -81,7 +81,7 @@ pub fn id_is_clear<F: RowFacts>(
 }
 
 /// True if the name of a declaration is allowed.
-pub fn variable_is_clear<F: RowFacts>(facts: &F, bind: NodeId, name: &Text) -> bool
+fn variable_is_clear<F: RowFacts>(facts: &F, bind: NodeId, name: &Text) -> bool
     ensures { result ≡ spec.clear_variable (F.facts facts.now) bind.0 name.now }
 {
     if facts.is_variable(bind) {

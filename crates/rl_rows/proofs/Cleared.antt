@@ -37,8 +37,8 @@ inside_same f a labels w parts =
 node_same : (f : Facts) (a : Above) (labels : List (List ℕ × Bool)) (at : At) (w : Word) (parts : Pieces)
     → clear_node f a labels at w parts ≡ is_none (rows_in f (seen a labels) (Node at w parts))
 node_same f a labels at w parts =
-    (λ i. itself_same f a labels at w parts i && (place_same f a labels at w i && inside_same f a labels w parts i))
-    ∙ three_none (of_node f (seen a labels) (Node at w parts)) (of_place f (seen a labels) at w)
+    (λ i. itself_same f a labels at w parts i && (place_same f a labels at w parts i && inside_same f a labels w parts i))
+    ∙ three_none (of_node f (seen a labels) (Node at w parts)) (of_place f (seen a labels) at w parts)
     (if is_no_code w parts then rows_of_no_code f w parts else rows_below f (seen a labels) w parts)
 
 pub node_cleared : (f : Facts) (a : Above) (labels : List (List ℕ × Bool)) (at : At) (w : Word) (parts : List Numbered) (r : Bool)

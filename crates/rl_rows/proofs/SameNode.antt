@@ -6,7 +6,7 @@ use Rattle.rl_text.specs.Numeral.{is_numeral}
 use Rattle.rl_model.specs.Applied.{F, Facts, K, S, deletes, has_colon, has_this_among, is_assigned, is_bound_tag, is_known_key}
 use Rattle.rl_model.specs.Applied.{is_plain_name, is_read, is_true, is_var, label_found, of_name, of_node, of_place, of_private, of_update}
 use Rattle.rl_model.specs.Applied.{of_wrapped}
-use Rattle.rl_model.specs.Code.{is_function}
+use Rattle.rl_model.specs.Code.{is_function, is_no_code}
 use Rattle.rl_model.specs.Shapes.{are_raw, is_logical, is_same_text}
 use Rattle.rl_model.specs.Shapes.{is_absent as is_no_part}
 use Rattle.rl_model.specs.Supported.{is_none}
@@ -116,5 +116,6 @@ itself_same f a labels at w parts = refl
 
 -- A node by its place.
 pub place_same : (f : Facts) (a : Above) (labels : List (List ℕ × Bool)) (at : At) (w : Word)
-    → clear_place f a at w ≡ is_none (of_place f (seen a labels) at w)
-place_same f a labels at w = two_whens (a.key && not (is_known_key w)) (is_function w && f.is_dead at.id.0) (F 9) (F 41)
+    (parts : Pieces) → clear_place f a at w parts ≡ is_none (of_place f (seen a labels) at w parts)
+place_same f a labels at w parts =
+    two_whens (a.key && not (is_known_key w)) (is_function w && not (is_no_code w parts) && f.is_dead at.id.0) (F 9) (F 41)

@@ -2,10 +2,10 @@
 use Rattle.std.proofs.Common.{◌≡◌, ℕ, Bool, true, false, ◌&&◌, if◌then◌else◌, None, List, ◌++◌, codes, ap, refl, ◌∙◌}
 use Rattle.std.specs.Str.{bytes_eq}
 use Rattle.rl_model.specs.Applied as model
-use Rattle.rl_model.specs.Applied.{Facts, rows_among, rows_below, rows_in}
+use Rattle.rl_model.specs.Applied.{Facts, is_this, rows_among, rows_below, rows_in}
 use Rattle.rl_model.specs.Supported.{is_none}
 use Rattle.rl_row_forms.specs.Aboves.{breaking, heading, inside_target, keyed, looping, moving, part, resting, seen}
-use Rattle.rl_row_forms.specs.Aboves.{tagging, taken, trying, use_of, using}
+use Rattle.rl_row_forms.specs.Aboves.{membering, tagging, taken, trying, use_of, using}
 use Rattle.rl_row_forms.specs.declared.above.Above.{Above}
 use Rattle.rl_row_forms.specs.declared.above.Use.{Use}
 use Rattle.rl_row_forms.specs.declared.above.Use.TheVariants as uses
@@ -118,7 +118,7 @@ below_same f a labels word.Case (Then condition (Then statements End)) =
     pair_same f labels (moving a) (part a) _ _ condition statements refl refl
 below_same f a labels word.Opening (Then tag (Then attributes End)) = pair_same f labels (tagging a) (part a) _ _ tag attributes refl refl
 below_same f a labels word.Tagmember (Then object parts) =
-    alone_same f labels (is_none (rows_in f (seen (tagging a) labels) object)) parts
+    alone_same f labels (is_none (rows_in f (seen (membering (is_this object) a) labels) object)) parts
 below_same f a labels word.Try (Then block (Then handler (Then finalizer End))) =
     three_same (rows_in f (seen (trying a) labels) block) (rows_in f (seen (part a) labels) handler)
     (rows_in f (seen (part a) labels) finalizer)

@@ -46,4 +46,4 @@ clear_inside f a labels w parts = if is_no_code w parts then clear_no_code f w p
 
 -- A node and its parts.
 abbrev pub clear_node : Facts → Above → (labels : List (List ℕ × Bool)) → At → Word → Pieces → Bool
-clear_node f a labels at w parts = clear_itself f a labels at w parts && (clear_place f a at w && clear_inside f a labels w parts)
+clear_node f a labels at w parts = clear_itself f a labels at w parts && (clear_place f a at w parts && clear_inside f a labels w parts)

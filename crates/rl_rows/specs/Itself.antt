@@ -1,7 +1,7 @@
 -- The rows of a node by itself, as a test: true where none applies.
 use Rattle.std.specs.Prelude.{ℕ, Bool, true, false, ◌&&◌, not, List}
 use Rattle.rl_model.specs.Applied.{Facts, has_this_among, is_known_key}
-use Rattle.rl_model.specs.Code.{is_function}
+use Rattle.rl_model.specs.Code.{is_function, is_no_code}
 use Rattle.rl_row_forms.specs.Statements.{clear_statement}
 use Rattle.rl_row_forms.specs.Targets.{clear_expression}
 use Rattle.rl_row_forms.specs.declared.above.Above.{Above}
@@ -69,5 +69,6 @@ abbrev pub clear_itself : Facts → Above → (labels : List (List ℕ × Bool))
 clear_itself f a labels at w parts = clear_kind_of f a labels at w parts (kind_of w)
 
 -- A node by its place.
-abbrev pub clear_place : Facts → Above → At → Word → Bool
-clear_place f a at w = not (a.key && not (is_known_key w)) && not (is_function w && f.is_dead at.id.0)
+abbrev pub clear_place : Facts → Above → At → Word → Pieces → Bool
+clear_place f a at w parts =
+    not (a.key && not (is_known_key w)) && not (is_function w && not (is_no_code w parts) && f.is_dead at.id.0)

@@ -1,10 +1,10 @@
 -- The summaries for the parts of a node, and the rows in them.
 use Rattle.std.specs.Prelude.{ℕ, Bool, true, false, ◌&&◌, if◌then◌else◌, Option, Some, None, List, codes}
 use Rattle.std.specs.Str.{bytes_eq}
-use Rattle.rl_code.specs.Parts.{both, only, second, third_of_three, three}
-use Rattle.rl_model.specs.Applied.{Facts, rows_in}
+use Rattle.rl_code.specs.Parts.{both, first, only, second, third_of_three, three}
+use Rattle.rl_model.specs.Applied.{Facts, is_this, rows_in}
 use Rattle.rl_model.specs.Supported.{is_none}
-use Rattle.rl_row_forms.specs.Aboves.{breaking, heading, keyed, looping, moving, part, resting, seen, tagging, taken, trying, using}
+use Rattle.rl_row_forms.specs.Aboves.{breaking, heading, keyed, looping, membering, moving, part, resting, seen, tagging, taken, trying, using}
 use Rattle.rl_row_forms.specs.Shaped.{flag_of_three, said_of_three}
 use Rattle.rl_row_forms.specs.declared.above.Above.{Above}
 use Rattle.rl_row_forms.specs.declared.above.Use.{Use}
@@ -56,6 +56,10 @@ rest_plan a parts = of_item (even (part a)) (λ target. alone a) (only parts)
 abbrev pub try_plan : Above → Pieces → Plan
 try_plan a parts = of_item (even (part a)) (λ p. plan_of (Some (trying a)) (Some (part a)) (Some (part a)) None) (three parts)
 
+-- The plan of the name of an element that is a property: of its object alone.
+abbrev pub member_plan : Above → Pieces → Plan
+member_plan a parts = of_item (alone (part a)) (λ object. alone (membering (is_this object) a)) (first parts)
+
 abbrev pub forin_plan : Above → Plan
 forin_plan a = plan_of (Some (heading a)) (Some (looping a)) (Some (looping a)) (Some (looping a))
 
@@ -87,7 +91,7 @@ other_plan a word.Get parts = property_plan (part a) a parts
 other_plan a word.Set parts = property_plan (part a) a parts
 other_plan a word.Case parts = pair_plan (moving a) (part a) (part a) parts
 other_plan a word.Opening parts = pair_plan (tagging a) (part a) (part a) parts
-other_plan a word.Tagmember parts = alone (tagging a)
+other_plan a word.Tagmember parts = member_plan a parts
 other_plan a word.Try parts = try_plan a parts
 other_plan a word.While parts = even (looping a)
 other_plan a word.Dowhile parts = even (looping a)

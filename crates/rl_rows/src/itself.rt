@@ -5,7 +5,7 @@ ghost use Rattle.rl_row_forms.specs.Labels.{labels_of};
 ghost use Rattle.rl_rows.specs.Itself as spec;
 ghost use Rattle.rl_syntax.specs.Syntax.{pieces_of, syntax};
 
-use rl_code::parts::is_function;
+use rl_code::parts::{is_function, is_no_code};
 use rl_row_forms::above::Above;
 use rl_row_forms::labels::Labels;
 use rl_row_forms::statements::statement_is_clear;
@@ -125,8 +125,15 @@ pub fn itself_is_clear<F: RowFacts>(
 }
 
 /// True if no row applies to a node by its place: to a key, or to an inner function in a dead part.
-pub fn place_is_clear<F: RowFacts>(facts: &F, above: &Above, at: At, word: Word) -> bool
-    ensures { result ≡ spec.clear_place (F.facts facts.now) above.now at word }
+pub fn place_is_clear<F: RowFacts>(
+    facts: &F,
+    above: &Above,
+    at: At,
+    word: Word,
+    parts: &[Numbered],
+) -> bool
+    ensures { result ≡ spec.clear_place (F.facts facts.now) above.now at word (pieces_of (map syntax parts.now)) }
 {
-    !(above.key && !is_known_key(word)) && !(is_function(word) && facts.is_dead(at.id))
+    !(above.key && !is_known_key(word))
+        && !(is_function(word) && !is_no_code(word, parts) && facts.is_dead(at.id))
 }

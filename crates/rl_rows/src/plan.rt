@@ -5,12 +5,13 @@ ghost use Rattle.rl_rows.specs.Plans as spec;
 ghost use Rattle.rl_syntax.specs.Syntax.{pieces_of, syntax};
 
 use rl_base::text::Text;
-use rl_code::parts::{both, only, second, third_of_three, three};
+use rl_code::parts::{both, first, only, second, third_of_three, three};
 use rl_row_forms::above::{
-    Above, Use, breaking, heading, keyed, looping, moving, part, resting, tagging, taken, trying,
-    using,
+    Above, Use, breaking, heading, keyed, looping, membering, moving, part, resting, tagging,
+    taken, trying, using,
 };
 use rl_row_forms::forms::{flag_of_three, said_of_three};
+use rl_row_forms::words::is_this;
 use rl_syntax::numbered::Numbered;
 use rl_syntax::word::Word;
 
@@ -173,6 +174,17 @@ fn try_plan(above: Above, parts: &[Numbered]) -> Plan
     }
 }
 
+/// The plan of the name of an element that is a property.
+#[tactic(auto, using(rl_row_forms::proofs::Shaped::by_item))]
+fn member_plan(above: Above, parts: &[Numbered]) -> Plan
+    ensures { result ≡ spec.member_plan above (pieces_of (map syntax parts.now)) }
+{
+    match first(parts) {
+        Some(object) => alone(membering(is_this(object), above)),
+        None => alone(part(above)),
+    }
+}
+
 /// The plan of a `for`-`in` loop.
 fn forin_plan(above: Above) -> Plan
     ensures { result ≡ spec.forin_plan above }
@@ -234,7 +246,7 @@ fn other_plan(above: Above, word: Word, parts: &[Numbered]) -> Plan
         Word::Set => property_plan(part(above), above, parts),
         Word::Case => pair_plan(moving(above), part(above), part(above), parts),
         Word::Opening => pair_plan(tagging(above), part(above), part(above), parts),
-        Word::Tagmember => alone(tagging(above)),
+        Word::Tagmember => member_plan(above, parts),
         Word::Try => try_plan(above, parts),
         Word::While => even(looping(above)),
         Word::Dowhile => even(looping(above)),

@@ -59,7 +59,7 @@ fn node_is_clear<'t, F: RowFacts>(
     ensures { result ≡ spec.clear_node (F.facts facts.now) above.now (labels_of labels.now) at word (pieces_of (map syntax parts.now)) }
 {
     itself_is_clear(facts, above, labels, at, word, parts)
-        && place_is_clear(facts, above, at, word)
+        && place_is_clear(facts, above, at, word, parts)
         && inside_is_clear(facts, above, labels, word, parts)
 }
 
