@@ -168,13 +168,15 @@ def own_lines(sort):
     return [SORTS[line.inner][0] if line.inner else line for line in SORTS[sort] if line not in inner_sorts(sort)]
 
 
+def by_inner(inner, two, one, none):
+    """The form for as many inner sorts as there are, with what is given of each put in."""
+    return [none, one, two][len(inner)].format(*inner)
+
+
 def rule_function(sort):
     arms = [f"        Word::{camel(line.word)} => Some(&[{', '.join(f'Field::{f.form}(Kind::{f.kind})' for f in line.fields)}])," for line in own_lines(sort)]
-    inner = [snake(line.inner) for line in inner_sorts(sort)]
-    if len(inner) == 2:
-        arms.append(f"        _ => match {inner[0]}_rule(word) {{ Some(fields) => Some(fields), None => {inner[1]}_rule(word) }},")
-    else:
-        arms.append(f"        _ => {inner[0]}_rule(word)," if inner else "        _ => None,")
+    inner = [f"{snake(line.inner)}_rule(word)" for line in inner_sorts(sort)]
+    arms.append(f"        _ => {by_inner(inner, 'match {0} {{ Some(fields) => Some(fields), None => {1} }}', '{0}', 'None')},")
     return (f"/// The fields of the kind `{sort}`, by the word of a node.\nfn {snake(sort)}_rule(word: Word) -> Option<&'static [Field]>\n"
             f"    ensures {{ table_of result ≡ spec.{snake(sort)}_rule word }}\n{{\n    match word {{\n" + "\n".join(arms) + "\n    }\n}\n")
 
@@ -195,7 +197,7 @@ def rule_spec(sort):
         fields = "".join(f"field.{f.form} kind.{f.kind} ∷ " for f in line.fields) + "[]"
         lines.append(f"{snake(sort)}_rule word.{camel(line.word)} = Some " + (f"({fields})" if line.fields else fields))
     inner = [f"{snake(line.inner)}_rule w" for line in inner_sorts(sort)]
-    lines.append(f"{snake(sort)}_rule " + (f"w = first_rule ({inner[0]}) ({inner[1]})" if len(inner) == 2 else f"w = {inner[0]}" if inner else "_ = None"))
+    lines.append(f"{snake(sort)}_rule " + by_inner(inner, "w = first_rule ({0}) ({1})", "w = {0}", "_ = None"))
     return "\n".join(lines) + "\n"
 
 
@@ -315,10 +317,8 @@ def enum_view(sort, life):
         arms.append(build_arm(line, f"{sort}::{line.variant}"))
         seen.append(f"seen_{name} ({name}.{' '.join([line.variant, 'at', *(f.name for f in line.fields)])}) = {node_text(line)}")
     inner = [(line.inner, f"{sort}::{line.variant}(Tree::new(tree.tree))") for line in inner_sorts(sort)]
-    if len(inner) == 2:
-        arms.append(f"        _ => match rule(Kind::{inner[0][0]}, word) {{ Some(_) => {inner[0][1]}, None => {inner[1][1]} }},")
-    else:
-        arms.append(f"        _ => {inner[0][1]}," if inner else "        _ => unreachable!(),")
+    two = "match rule(Kind::{0[0]}, word) {{ Some(_) => {0[1]}, None => {1[1]} }}"
+    arms.append(f"        _ => {by_inner(inner, two, '{0[1]}', 'unreachable!()')},")
     return rust + ["}\n"], arms, seen
 
 
