@@ -70,5 +70,3 @@ function_none f marked none =
     let both = no_parts marked none in
     ap (λ s. is_none (rows_in f model.top s ++ [])) (sym both.0)
     ∙ ap (λ s. is_none (rows_in f model.top (params_in marked) ++ rows_in f model.top s)) (sym both.1)
-
-pub ruleset functions = (function_some, function_none)

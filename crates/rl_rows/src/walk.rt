@@ -214,7 +214,7 @@ fn both_are_clear<F: RowFacts>(facts: &F, params: &Numbered, body: &Numbered) ->
 
 /// True if no row applies in the parameters and the body of the marked function, its inner functions among them. The rows F26, F29 and
 /// F44, and S3 of wrapped targets, are not tried here.
-#[tactic(auto, using(crate::proofs::Cleared::functions))]
+#[tactic(auto, using(crate::proofs::Cleared::function_none))]
 pub fn has_no_rows<F: RowFacts>(facts: &F, marked: &Numbered) -> bool
     ensures { result ≡ is_none (model.rows_in (F.facts facts.now) model.top (params_in (syntax marked.now)) ++ model.rows_in (F.facts facts.now) model.top (body_in (syntax marked.now))) }
 {
